@@ -1,0 +1,6 @@
+pub mod Cuts
+pub mod RootTexts
+pub mod PathTexts
+mod FileParts
+pub mod FileTests
+mod Taken

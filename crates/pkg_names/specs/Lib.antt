@@ -1,0 +1,5 @@
+pub mod NameAndVariant
+pub mod FileText
+pub mod Root
+pub mod MemoryStreams
+pub mod Streams
