@@ -1,0 +1,10 @@
+pub mod StateLemmas
+pub mod ImageLemmas
+pub mod Moments
+pub mod Regions
+pub mod ReadPages
+pub mod KeptLemmas
+pub mod CommitSteps
+pub mod ReplayLemmas
+pub mod PickLemmas
+pub mod CopyLemmas

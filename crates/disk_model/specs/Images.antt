@@ -1,0 +1,67 @@
+-- What a power loss may leave of a disk, at each moment of its past.
+use Rattle.std.specs.Prelude.{ℕ, ◌≡◌, ◌<◌, ◌≤◌, ⊤, List, [], ◌++◌, length, take, ◌∷◌, slice_set, Option, Some, None, IfSome}
+use Rattle.std.specs.List.{AllByRecursion}
+use Rattle.disk_model.specs.declared.act.Act.{Act}
+use Rattle.disk_model.specs.declared.act.Act.TheVariants.{Wrote, Failed, Synced}
+use Rattle.disk_model.specs.Past.{Page, Pages, page_at, Past, IsActIn, state_of, IsPossible}
+
+-- Each page has a possible value of its own.
+pub record IsImage (past : Past) (image : Pages) : Type 0 where
+  pub size : length image ≡ length past.start
+  pub each : (n : ℕ) → n < length past.start → IsPossible (state_of past n) (page_at image n)
+
+-- what stands on the pages where each write that succeeded was made, and no other
+abbrev pub contents_after : List Act → Pages → Pages
+contents_after [] pages = pages
+contents_after (Wrote n bytes ∷ acts) pages = contents_after acts (slice_set pages n bytes)
+contents_after (Failed n bytes ∷ acts) pages = contents_after acts pages
+contents_after (Synced ∷ acts) pages = contents_after acts pages
+
+abbrev pub contents : Past → Pages
+contents past = contents_after past.trail past.start
+
+-- each image has P, where the past is told
+abbrev pub EachImage : Option Past → (Pages → Type 0) → Type 0
+EachImage told P = IfSome told (λ past. (image : Pages) → IsImage past image → P image)
+
+-- in each image the page has this value
+abbrev pub IsSettled : Option Past → ℕ → Page → Type 0
+IsSettled told n value = EachImage told (λ image. page_at image n ≡ value)
+
+-- The page's last write succeeded and wrote this. So it has this value after the next sync.
+abbrev pub IsWritten : Option Past → ℕ → Page → Type 0
+IsWritten told n value = IfSome told (λ past. ((state_of past n).now ≡ value) × ((state_of past n).failed ≡ []))
+
+-- the past as it was after this number of acts
+abbrev pub moment : Past → ℕ → Past
+moment past count = record past { trail = take count past.trail }
+
+-- new is old and what was done since
+pub record GoesOn (old new : Past) : Type 0 where
+  pub start : new.start ≡ old.start
+  pub trail : (acts : List Act) × (new.trail ≡ old.trail ++ acts)
+
+-- new is old and what was done since, which wrote only pages of the region
+pub record WritesIn (region : ℕ → Type 0) (old new : Past) : Type 0 where
+  pub start : new.start ≡ old.start
+  pub trail : (acts : List Act) × (new.trail ≡ old.trail ++ acts) × AllByRecursion (IsActIn region) acts
+
+-- new goes on from old, and at each moment from old on each image has P
+pub record Keeps (P : Pages → Type 0) (old new : Past) : Type 0 where
+  pub goes_on : GoesOn old new
+  pub each : (count : ℕ) → length old.trail ≤ count → count ≤ length new.trail → (image : Pages) → IsImage (moment new count) image → P image
+
+-- both are told and R holds of them, or neither is
+abbrev pub Both : (Past → Past → Type 0) → Option Past → Option Past → Type 0
+Both R None None = ⊤
+Both R (Some old) (Some new) = R old new
+Both R None (Some new) = ⊥
+Both R (Some old) None = ⊥
+
+-- at each moment from old on, each image has P
+abbrev pub AtEach : Option Past → Option Past → (Pages → Type 0) → Type 0
+AtEach old new P = Both (Keeps P) old new
+
+-- from old on, only pages of the region were written
+abbrev pub WritesOnly : Option Past → Option Past → (ℕ → Type 0) → Type 0
+WritesOnly old new region = Both (WritesIn region) old new

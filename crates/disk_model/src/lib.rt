@@ -1,0 +1,27 @@
+//! A disk of pages, what a power loss may leave of it, and disks in memory.
+#![tactic(auto)]
+
+mod act;
+mod copy;
+mod disk;
+mod fuse;
+mod laws;
+mod mem;
+mod pages;
+mod power_loss;
+mod quiet;
+mod replay;
+
+pub use act::Act;
+pub use copy::CopyFault;
+pub use disk::{Disk, DiskFailed};
+pub use fuse::FuseDisk;
+pub use laws::{
+    earlier_moment, fresh_disk, images_after_sync, images_after_write, pages_apart, untouched_page,
+};
+pub use mem::MemDisk;
+pub use power_loss::{Pick, RestartFault, restart};
+pub use quiet::QuietDisk;
+
+#[cfg(test)]
+mod tests;

@@ -1,0 +1,169 @@
+mod commit;
+
+ghost use Rattle.std.specs.Prelude.{◌≡◌, ◌<◌};
+
+use crate::{CopyFault, Disk, FuseDisk, MemDisk, Pick, QuietDisk, RestartFault, restart};
+use std::alloc::{AllocError, Global};
+use std::test::Fail;
+
+fn page_of(byte: u8) -> [u8; 4096] {
+    [byte; 4096]
+}
+
+// Whether the page was filled with this byte.
+fn put<D: Disk>(disk: &mut D, page: u32, byte: u8) -> bool
+    requires { page < D.pages disk.old }
+    ensures { D.pages disk.new ≡ D.pages disk.old }
+{
+    disk.write(page, &page_of(byte)).is_ok()
+}
+
+// The last byte of a page.
+fn got<D: Disk>(disk: &mut D, page: u32) -> Option<u8>
+    requires { page < D.pages disk.old }
+    ensures { D.pages disk.new ≡ D.pages disk.old }
+{
+    let mut out = page_of(255);
+    match disk.read(page, &mut out) {
+        Ok(()) => Some(out[4095]),
+        Err(_) => None,
+    }
+}
+
+fn synced<D: Disk>(disk: &mut D) -> bool
+    ensures { D.pages disk.new ≡ D.pages disk.old }
+{
+    disk.sync().is_ok()
+}
+
+fn mem(alloc: Global, pages: u32, failing: u64) -> Result<MemDisk, AllocError> {
+    MemDisk::make(alloc, pages, vec![in alloc; failing]?)
+}
+
+#[test]
+fn listed_calls_fail(rt: HostRuntime) -> Result<(), Fail> {
+    // the call that fails; a write, a sync and a read; the acts
+    for (failing, wrote, ended, read, acts) in [
+        (1, false, true, Some(0), 2),
+        (2, true, false, Some(5), 1),
+        (3, true, true, None, 2),
+        (4, true, true, Some(5), 2),
+    ] {
+        let mut disk = mem(rt.alloc(), 2, failing)?;
+        assert_eq!(rt; disk.pages(), 2);
+        assert_eq!(rt; put(&mut disk, 1, 5), wrote, "write, failing {failing}");
+        assert_eq!(rt; synced(&mut disk), ended, "sync, failing {failing}");
+        assert_eq!(rt; got(&mut disk, 1), read, "read, failing {failing}");
+        assert_eq!(rt; disk.acts(), acts, "acts, failing {failing}");
+        assert!(rt; !disk.starved());
+    }
+    Ok(())
+}
+
+#[test]
+fn a_fuse_passes_two(rt: HostRuntime) -> Result<(), Fail> {
+    let mut disk = FuseDisk::make(mem(rt.alloc(), 2, 0)?, 2);
+    assert_eq!(rt; disk.pages(), 2);
+    assert!(rt; put(&mut disk, 0, 1));
+    assert_eq!(rt; got(&mut disk, 0), Some(1));
+    assert!(rt; synced(&mut disk));
+    assert_eq!(rt; got(&mut disk, 1), Some(0));
+    assert!(rt; !put(&mut disk, 1, 2));
+    assert_eq!(rt; got(&mut disk, 1), None);
+    assert!(rt; !synced(&mut disk));
+    let inner = disk.inner();
+    assert_eq!(rt; inner.acts(), 3);
+    Ok(())
+}
+
+#[test]
+fn quiet_pages(rt: HostRuntime) -> Result<(), Fail> {
+    let mut disk = QuietDisk::make(rt.alloc(), 3)?;
+    assert_eq!(rt; disk.pages(), 3);
+    assert_eq!(rt; got(&mut disk, 2), Some(0));
+    assert!(rt; put(&mut disk, 2, 9));
+    assert!(rt; synced(&mut disk));
+    assert_eq!(rt; got(&mut disk, 2), Some(9));
+    assert_eq!(rt; got(&mut disk, 1), Some(0));
+    Ok(())
+}
+
+// Acts 0 to 4: page 0 gets 1, a sync, page 0 gets 2, page 1 gets 3, and a write of 4 to page 1 fails.
+fn busy(alloc: Global) -> Result<MemDisk, AllocError> {
+    let mut disk = mem(alloc, 2, 5)?;
+    if disk.pages() == 2 {
+        let _ = put(&mut disk, 0, 1);
+        let _ = synced(&mut disk);
+        let _ = put(&mut disk, 0, 2);
+        let _ = put(&mut disk, 1, 3);
+        let _ = put(&mut disk, 1, 4);
+    }
+    Ok(disk)
+}
+
+#[test]
+fn restarts(rt: HostRuntime) -> Result<(), Fail> {
+    let disk = busy(rt.alloc())?;
+    assert_eq!(rt; disk.acts(), 5);
+    let new = Pick { page: 0, act: 2 };
+    let next = Pick { page: 1, act: 3 };
+    let failed = Pick { page: 1, act: 4 };
+    for (picks, first, second) in [
+        (&[] as &[Pick], 1, 0),
+        (&[new], 2, 0),
+        (&[failed], 1, 4),
+        (&[next, new], 2, 3),
+    ] {
+        let mut old = restart(rt.alloc(), &disk, picks)?;
+        assert_eq!(rt; old.pages(), 2);
+        assert_eq!(rt; got(&mut old, 0), Some(first));
+        assert_eq!(rt; got(&mut old, 1), Some(second));
+        assert_eq!(rt; old.acts(), 0);
+    }
+    Ok(())
+}
+
+#[test]
+fn bad_picks(rt: HostRuntime) -> Result<(), Fail> {
+    let disk = busy(rt.alloc())?;
+    let new = Pick { page: 0, act: 2 };
+    for (picks, bad) in [
+        // a page that wasn't written by that act, an act before the last sync, the sync, no act
+        (&[Pick { page: 1, act: 2 }] as &[Pick], 0),
+        (&[Pick { page: 0, act: 0 }], 0),
+        (&[new, Pick { page: 0, act: 1 }], 1),
+        (&[Pick { page: 7, act: 5 }], 0),
+        // a page twice
+        (
+            &[Pick { page: 1, act: 3 }, new, Pick { page: 1, act: 4 }],
+            2,
+        ),
+    ] {
+        match restart(rt.alloc(), &disk, picks) {
+            Ok(_) => assert!(rt; false),
+            Err(fault) => assert_eq!(rt; fault, RestartFault::BadPick { n: bad }),
+        }
+    }
+    Ok(())
+}
+
+#[test]
+fn copies(rt: HostRuntime) -> Result<(), Fail> {
+    let mut zeros = mem(rt.alloc(), 3, 0)?;
+    let copy = MemDisk::copy_of(rt.alloc(), &mut zeros)?;
+    assert_eq!(rt; copy.pages(), 3);
+    assert_eq!(rt; copy.acts(), 0);
+    // the second read fails
+    let mut failing = mem(rt.alloc(), 3, 2)?;
+    match MemDisk::copy_of(rt.alloc(), &mut failing) {
+        Ok(_) => assert!(rt; false),
+        Err(fault) => assert_eq!(rt; fault, CopyFault::Read),
+    }
+    // what was written last is read
+    let mut disk = busy(rt.alloc())?;
+    let mut copy = MemDisk::copy_of(rt.alloc(), &mut disk)?;
+    assert_eq!(rt; copy.pages(), 2);
+    assert_eq!(rt; got(&mut copy, 0), Some(2));
+    assert_eq!(rt; got(&mut copy, 1), Some(3));
+    Ok(())
+}

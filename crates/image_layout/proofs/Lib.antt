@@ -1,0 +1,2 @@
+pub mod SuperLemmas
+pub mod RegionLemmas

@@ -1,0 +1,24 @@
+use Rattle.std.proofs.Common.{ℕ, Bool, false, List, get_or, set, take, sym, ap, subst, ◌∙◌}
+use Rattle.std.proofs.lemmas.List.{take_more}
+use Rattle.page_pool.specs.Flags.{IsTaken, with_flags}
+use Rattle.page_pool.proofs.FlagLemmas.{next_taken, with_flags-push}
+use Rattle.page_pool.proofs.pool.give_pages.Goals as goal
+
+pub give_one-requires-clause-taken : goal.give_one-requires-clause-taken
+give_one-requires-clause-taken c =
+    let i = c.loop-page.page-index in
+    subst (λ (l : List Bool). IsTaken l (get_or c.args.pages.now i 0)) (sym c.loop-page.invariant.given)
+    (next_taken c.args.taken.now c.args.pages.now i 0 c.loop-page-test.true c.requires.taken c.requires.apart)
+
+pub loop-page-preserved : goal.loop-page-preserved
+loop-page-preserved c =
+    let pages = c.args.pages.now in
+    let i = c.loop-page.page-index in
+    let first = c.args.taken.now in
+    let page = get_or pages i 0 in
+    record {
+      given = c.give_one.ensures.given ∙ ap (λ (l : List Bool). set l page false) c.loop-page.invariant.given ∙ sym (with_flags-push false (take i pages) page first)
+          ∙ ap (λ (l : List ℕ). with_flags false l first) (sym (take_more pages i 0 c.loop-page-test.true));
+      list = c.give_one.ensures.list;
+      room = c.give_one.ensures.room ∙ c.loop-page.invariant.room;
+    }
