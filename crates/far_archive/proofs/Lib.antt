@@ -1,0 +1,13 @@
+mod Loop
+mod Facts
+mod Decided
+mod Parts
+mod Items
+mod Standing
+mod Holding
+mod Law
+mod Order
+mod Puts
+mod Lists
+mod Made
+mod Lookup

@@ -1,0 +1,6 @@
+pub mod Fields
+pub mod Faults
+pub mod Archive
+pub mod Written
+pub mod Kept
+pub mod Named

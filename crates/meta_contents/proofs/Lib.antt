@@ -1,0 +1,6 @@
+mod Texts
+mod Pairs
+mod Cuts
+mod Placing
+mod Law
+mod Round

@@ -1,0 +1,128 @@
+//! Contents: the files of a package outside its archive, each with its root.
+
+ghost use Rattle.std.specs.Prelude.{◌≡◌, ◌↔◌, ◌++◌, ◌∷◌, [], List, length, true, false, Err, OnOk, OnErr, IfOk, IsErrOf};
+ghost use Rattle.meta_contents.specs.Contents.{Pair, pairs, paths, is_in_meta, is_among, IsContents, StandsFor, line_text, text_of};
+
+use crate::fault::AddFault;
+use pkg_names::{Bytes, FilePath, Root, write_root};
+use std::alloc::{AllocError, Global};
+use std::marker::Model;
+
+/// A file and its root.
+#[derive(Debug, Drop)]
+pub struct ContentsLine {
+    pub file: FilePath,
+    pub root: Root,
+}
+
+/// The files of a package outside its archive. Contracts see the list of pairs, a file and its root.
+#[derive(Debug, Drop)]
+pub struct Contents {
+    lines: Vec<ContentsLine>,
+}
+
+impl Model for Contents {
+    ghost use Rattle.std.specs.Prelude.{List};
+    ghost use Rattle.meta_contents.specs.Contents.{Pair, pairs, IsContents};
+
+    ghost Value = { List Pair };
+
+    ghost view = { λ c. pairs c.lines.items };
+
+    ghost invariant = { λ c. IsContents (pairs c.lines.items) };
+}
+
+/// The most files that contents have.
+pub const LINE_LIMIT: usize = 4096;
+
+impl Contents {
+    /// No files.
+    pub fn new(alloc: Global) -> Contents
+        ensures { result ≡ [] }
+    {
+        Contents {
+            lines: Vec::new(alloc),
+        }
+    }
+
+    // The contents of these lines.
+    pub(crate) fn of_lines(lines: Vec<ContentsLine>) -> Contents
+        requires { IsContents (pairs lines.items) }
+        ensures { result ≡ pairs lines.items }
+    {
+        Contents { lines }
+    }
+
+    pub fn lines(&self) -> &[ContentsLine]
+        ensures list { pairs result.now ≡ self.now }
+        ensures valid { IsContents self.now }
+    {
+        self.lines.as_slice()
+    }
+
+    /// Puts a file and its root last. A refusal changes nothing.
+    pub fn add(&mut self, file: FilePath, root: Root) -> Result<(), AddFault>
+        ensures ok { OnOk result (self.new ≡ self.old ++ (file, root) ∷ []) }
+        ensures err { OnErr result (self.new ≡ self.old) }
+        ensures in_meta { (result ≡ Err AddFault.InMeta) ↔ (is_in_meta file ≡ true) }
+        ensures repeat { IsErrOf result AddFault.Repeat → is_among file (paths self.old) ≡ true }
+        ensures repeated { is_in_meta file ≡ false → is_among file (paths self.old) ≡ true → result ≡ Err AddFault.Repeat }
+        ensures too_many { IsErrOf result AddFault.TooMany → length self.old ≡ 4096 }
+        ensures full { is_in_meta file ≡ false → is_among file (paths self.old) ≡ false → length self.old ≡ 4096 → result ≡ Err AddFault.TooMany }
+    {
+        if is_in_meta(file.as_slice()) {
+            return Err(AddFault::InMeta);
+        }
+        if is_among(file.as_slice(), &self.lines) {
+            return Err(AddFault::Repeat);
+        }
+        if self.lines.len() >= LINE_LIMIT {
+            return Err(AddFault::TooMany);
+        }
+        self.lines.push(ContentsLine { file, root })?;
+        Ok(())
+    }
+}
+
+/// Whether a path begins with `meta/`.
+pub fn is_in_meta(path: &[u8]) -> bool
+    ensures { result ≡ is_in_meta path.now }
+{
+    path.starts_with(b"meta/")
+}
+
+// Whether a line has this path.
+fn is_among(path: &[u8], lines: &[ContentsLine]) -> bool
+    ensures { result ≡ is_among path.now (paths (pairs lines.now)) }
+{
+    for line in lines {
+        if line.file.as_slice() == path {
+            return true;
+        }
+    }
+    false
+}
+
+/// Writes one line for each file, in order.
+pub fn write_contents(alloc: Global, contents: &Contents) -> Result<Bytes, AllocError>
+    ensures text { IfOk result (λ bytes. bytes ≡ text_of contents.now) }
+    ensures stands { IfOk result (λ bytes. StandsFor bytes contents.now) }
+{
+    let mut out = Vec::new(alloc);
+    for line in contents.lines() {
+        put_line(&mut out, line)?;
+    }
+    Ok(Bytes::make(out))
+}
+
+fn put_line(out: &mut Vec<u8>, line: &ContentsLine) -> Result<(), AllocError>
+    ensures { OnOk result (out.new.items ≡ out.old.items ++ (line_text (line.now.file, line.now.root) ++ 10 ∷ [])) }
+{
+    let mut digits = [0u8; 64];
+    write_root(&line.root, &mut digits);
+    out.extend_from_slice(line.file.as_slice())?;
+    out.push(b'=')?;
+    out.extend_from_slice(&digits)?;
+    out.push(b'\n')?;
+    Ok(())
+}
