@@ -1,0 +1,222 @@
+-- The machine that serves keeps its counts.
+use Rattle.std.proofs.Common.{◌≡◌, ℕ, ◌+◌, Bool, true, false, ◌&&◌, List, [], ◌∷◌, length, Option, Some, None, refl, sym, ap, subst, ◌∙◌, arith}
+use Rattle.std.specs.Prelude.{◌==◌, if◌then◌else◌}
+use Rattle.std.specs.Option.{option_map}
+use Rattle.pkg_names.specs.declared.root.Root.{Root}
+use Rattle.pkg_names.specs.NameAndVariant.{NameAndVariant}
+use Rattle.fetch_queue.specs.declared.FetchEnd.{FetchEnd}
+use Rattle.package_book.specs.Books.{root_eq}
+use Rattle.package_indexes.specs.declared.Choice.{Choice}
+use Rattle.package_indexes.specs.Indexes.{path_eq}
+use Rattle.store_model.specs.declared.events.Event.{Event}
+use Rattle.store_model.specs.declared.events.Act.{Act}
+use Rattle.store_model.specs.declared.events.Act.TheVariants.{Boot, Begin, Want, Room, Land, Missed, GaveUp}
+use Rattle.store_model.specs.declared.events.BeginEnd.{BeginEnd}
+use Rattle.store_model.specs.declared.events.BeginEnd.TheVariants as begins
+use Rattle.store_model.specs.declared.events.WantEnd.{WantEnd}
+use Rattle.store_model.specs.declared.events.WantEnd.TheVariants.{Fetch, Opened, Failed}
+use Rattle.store_model.specs.declared.events.LookedAt.{LookedAt}
+use Rattle.store_model.specs.declared.events.Miss.{Miss}
+use Rattle.store_model.specs.declared.events.Miss.TheVariants as misses
+use Rattle.store_model.proofs.Roots.{root_eq-true}
+use Rattle.pkg_tool.specs.declared.script.Request.{Request}
+use Rattle.pkg_tool.specs.Counting.{asks, answers, grants, ends, counted, asked_at, granted_at, Balances}
+use Rattle.pkg_tool.specs.Serving.{Place, Progress, is_pin, after_begin, after_want, after_room, after_miss, goes, served_to, goes_for, passes, leads_to, progress}
+use Rattle.pkg_tool.specs.Serving.Place.{Rest, Waiting, Granted, Roomy, Giving, Cut}
+
+-- one where the lane rests
+abbrev rests : Place → ℕ
+rests Rest = 1
+rests place = 0
+
+record Stepped (from : Place) (act : Act) (to : Place) : Type 0 where
+  asked : asks act + asked_at from ≡ asked_at to + answers act
+  answered : answers act ≡ rests to
+  fetched : (root : Root) → grants root act + granted_at root from ≡ ends root act + granted_at root to
+
+picked : (t : Bool) (to found : Place) → ◌≡◌ {A = Option Place} (if t then Some to else None) (Some found) → (t ≡ true) × (to ≡ found)
+picked true to found h = (refl, cc)
+picked false to found h = absurd cc
+
+begun : (path : NameAndVariant) (choice : Choice) (reply : BeginEnd) (seen : List LookedAt) (number : ℕ) → Stepped Rest (Begin path choice reply seen) (after_begin number reply)
+begun path choice (begins.Ticket root) seen number = record { asked = refl; answered = refl; fetched = λ r. refl }
+begun path choice begins.InRecovery seen number = record { asked = refl; answered = refl; fetched = λ r. refl }
+begun path choice begins.NotFound seen number = record { asked = refl; answered = refl; fetched = λ r. refl }
+begun path choice begins.ListingFault seen number = record { asked = refl; answered = refl; fetched = λ r. refl }
+begun path choice begins.DiskRead seen number = record { asked = refl; answered = refl; fetched = λ r. refl }
+begun path choice (begins.Rotten root got) seen number = record { asked = refl; answered = refl; fetched = λ r. refl }
+
+wanted : (ticket asked : ℕ) (reply : WantEnd) → Stepped (Waiting ticket) (Want asked reply) (after_want ticket reply)
+wanted ticket asked (Fetch blob) = record { asked = refl; answered = refl; fetched = λ r. omega arith }
+wanted ticket asked Opened = record { asked = refl; answered = refl; fetched = λ r. refl }
+wanted ticket asked (Failed cause) = record { asked = refl; answered = refl; fetched = λ r. refl }
+
+roomed : (ticket : ℕ) (blob : Root) (len : ℕ) (reply : Option FetchEnd) → Stepped (Granted ticket blob) (Room blob len reply) (after_room ticket blob reply)
+roomed ticket blob len None = record { asked = refl; answered = refl; fetched = λ r. refl }
+roomed ticket blob len (Some end) = record { asked = refl; answered = refl; fetched = λ r. omega arith }
+
+missed_granted : (ticket : ℕ) (blob : Root) (why : Miss) → Stepped (Granted ticket blob) (Missed blob why) (after_miss ticket why)
+missed_granted ticket blob misses.Absent = record { asked = refl; answered = refl; fetched = λ r. omega arith }
+missed_granted ticket blob misses.Read = record { asked = refl; answered = refl; fetched = λ r. omega arith }
+missed_granted ticket blob misses.Memory = record { asked = refl; answered = refl; fetched = λ r. omega arith }
+
+missed_roomy : (ticket : ℕ) (blob : Root) (why : Miss) → Stepped (Roomy ticket blob) (Missed blob why) (after_miss ticket why)
+missed_roomy ticket blob misses.Absent = record { asked = refl; answered = refl; fetched = λ r. omega arith }
+missed_roomy ticket blob misses.Read = record { asked = refl; answered = refl; fetched = λ r. omega arith }
+missed_roomy ticket blob misses.Memory = record { asked = refl; answered = refl; fetched = λ r. omega arith }
+
+landed_roomy : (ticket : ℕ) (blob : Root) (len : ℕ) (reply : Option FetchEnd) (seen : List LookedAt) → Stepped (Roomy ticket blob) (Land blob len reply seen) (Waiting ticket)
+landed_roomy ticket blob len reply seen = record { asked = refl; answered = refl; fetched = λ r. omega arith }
+
+gave_up : (ticket given : ℕ) → Stepped (Waiting ticket) (GaveUp given) Cut
+gave_up ticket given = record { asked = refl; answered = refl; fetched = λ r. refl }
+
+gave_in : (ticket given : ℕ) → Stepped (Giving ticket) (GaveUp given) Cut
+gave_in ticket given = record { asked = refl; answered = refl; fetched = λ r. refl }
+
+stepped : (request : Request) (from : Place) (number : ℕ) (act : Act) (to : Place) → goes request from number act ≡ Some to → Stepped from act to
+stepped request Rest number (Boot slot seen) to h = absurd cc
+stepped request Rest number (Begin path choice reply seen) to h =
+    let is = picked (path_eq request.path path && is_pin request.root choice) (after_begin number reply) to h in
+    subst (Stepped Rest (Begin path choice reply seen)) is.1 (begun path choice reply seen number)
+stepped request Rest number (Want asked reply) to h = absurd cc
+stepped request Rest number (Room made len reply) to h = absurd cc
+stepped request Rest number (Land landed len reply seen) to h = absurd cc
+stepped request Rest number (Missed missed why) to h = absurd cc
+stepped request Rest number (GaveUp given) to h = absurd cc
+stepped request (Waiting ticket) number (Boot slot seen) to h = absurd cc
+stepped request (Waiting ticket) number (Begin path choice reply seen) to h = absurd cc
+stepped request (Waiting ticket) number (Want asked reply) to h =
+    let is = picked (asked == ticket) (after_want ticket reply) to h in
+    subst (Stepped (Waiting ticket) (Want asked reply)) is.1 (wanted ticket asked reply)
+stepped request (Waiting ticket) number (Room made len reply) to h = absurd cc
+stepped request (Waiting ticket) number (Land landed len reply seen) to h = absurd cc
+stepped request (Waiting ticket) number (Missed missed why) to h = absurd cc
+stepped request (Waiting ticket) number (GaveUp given) to h =
+    let is = picked (given == ticket) Cut to h in
+    subst (Stepped (Waiting ticket) (GaveUp given)) is.1 (gave_up ticket given)
+stepped request (Granted ticket blob) number (Boot slot seen) to h = absurd cc
+stepped request (Granted ticket blob) number (Begin path choice reply seen) to h = absurd cc
+stepped request (Granted ticket blob) number (Want asked reply) to h = absurd cc
+stepped request (Granted ticket blob) number (Room made len reply) to h =
+    let is = picked (root_eq made blob) (after_room ticket blob reply) to h in
+    let same = root_eq-true made blob is.0 in
+    subst (Stepped (Granted ticket blob) (Room made len reply)) is.1 (subst (λ (r : Root). Stepped (Granted ticket blob) (Room r len reply) (after_room ticket blob reply)) (sym same) (roomed ticket blob len reply))
+stepped request (Granted ticket blob) number (Land landed len reply seen) to h = absurd cc
+stepped request (Granted ticket blob) number (Missed missed why) to h =
+    let is = picked (root_eq missed blob) (after_miss ticket why) to h in
+    let same = root_eq-true missed blob is.0 in
+    subst (Stepped (Granted ticket blob) (Missed missed why)) is.1 (subst (λ (r : Root). Stepped (Granted ticket blob) (Missed r why) (after_miss ticket why)) (sym same) (missed_granted ticket blob why))
+stepped request (Granted ticket blob) number (GaveUp given) to h = absurd cc
+stepped request (Roomy ticket blob) number (Boot slot seen) to h = absurd cc
+stepped request (Roomy ticket blob) number (Begin path choice reply seen) to h = absurd cc
+stepped request (Roomy ticket blob) number (Want asked reply) to h = absurd cc
+stepped request (Roomy ticket blob) number (Room made len reply) to h = absurd cc
+stepped request (Roomy ticket blob) number (Land landed len reply seen) to h =
+    let is = picked (root_eq landed blob) (Waiting ticket) to h in
+    let same = root_eq-true landed blob is.0 in
+    subst (Stepped (Roomy ticket blob) (Land landed len reply seen)) is.1 (subst (λ (r : Root). Stepped (Roomy ticket blob) (Land r len reply seen) (Waiting ticket)) (sym same) (landed_roomy ticket blob len reply seen))
+stepped request (Roomy ticket blob) number (Missed missed why) to h =
+    let is = picked (root_eq missed blob) (after_miss ticket why) to h in
+    let same = root_eq-true missed blob is.0 in
+    subst (Stepped (Roomy ticket blob) (Missed missed why)) is.1 (subst (λ (r : Root). Stepped (Roomy ticket blob) (Missed r why) (after_miss ticket why)) (sym same) (missed_roomy ticket blob why))
+stepped request (Roomy ticket blob) number (GaveUp given) to h = absurd cc
+stepped request (Giving ticket) number (Boot slot seen) to h = absurd cc
+stepped request (Giving ticket) number (Begin path choice reply seen) to h = absurd cc
+stepped request (Giving ticket) number (Want asked reply) to h = absurd cc
+stepped request (Giving ticket) number (Room made len reply) to h = absurd cc
+stepped request (Giving ticket) number (Land landed len reply seen) to h = absurd cc
+stepped request (Giving ticket) number (Missed missed why) to h = absurd cc
+stepped request (Giving ticket) number (GaveUp given) to h =
+    let is = picked (given == ticket) Cut to h in
+    subst (Stepped (Giving ticket) (GaveUp given)) is.1 (gave_in ticket given)
+stepped request Cut number (Boot slot seen) to h = absurd cc
+stepped request Cut number (Begin path choice reply seen) to h = absurd cc
+stepped request Cut number (Want asked reply) to h = absurd cc
+stepped request Cut number (Room made len reply) to h = absurd cc
+stepped request Cut number (Land landed len reply seen) to h = absurd cc
+stepped request Cut number (Missed missed why) to h = absurd cc
+stepped request Cut number (GaveUp given) to h = absurd cc
+
+-- what some events do to the progress
+record Counted (p : Progress) (es : List Event) (q : Progress) : Type 0 where
+  asked : counted asks es + length q.left + asked_at p.place ≡ length p.left + asked_at q.place
+  answered : counted answers es + length q.left ≡ length p.left
+  fetched : (root : Root) → counted (grants root) es + granted_at root p.place ≡ counted (ends root) es + granted_at root q.place
+
+served_left : (request : Request) (requests : List Request) (to : Place) → length (served_to request requests to).left + rests to ≡ length requests + 1
+served_left request requests Rest = omega arith
+served_left request requests (Waiting ticket) = omega arith
+served_left request requests (Granted ticket root) = omega arith
+served_left request requests (Roomy ticket root) = omega arith
+served_left request requests (Giving ticket) = omega arith
+served_left request requests Cut = omega arith
+
+served_place : (request : Request) (requests : List Request) (to : Place) → (served_to request requests to).place ≡ to
+served_place request requests Rest = refl
+served_place request requests (Waiting ticket) = refl
+served_place request requests (Granted ticket root) = refl
+served_place request requests (Roomy ticket root) = refl
+served_place request requests (Giving ticket) = refl
+served_place request requests Cut = refl
+
+mapped : (request : Request) (requests : List Request) (o : Option Place) (q : Progress) → option_map (served_to request requests) o ≡ Some q → (to : Place) × (o ≡ Some to) × (served_to request requests to ≡ q)
+mapped request requests None q h = absurd cc
+mapped request requests (Some to) q h = (to, refl, cc)
+
+moved : (left : List Request) (place : Place) (number : ℕ) (act : Act) (q : Progress) → goes_for left place number act ≡ Some q → (to : Place) × Stepped place act to × (q.place ≡ to) × (length q.left + rests to ≡ length left)
+moved [] place number act q h = absurd cc
+moved (request ∷ requests) place number act q h =
+    let m = mapped request requests (goes request place number act) q h in (
+      m.0,
+      stepped request place number act m.0 m.1,
+      sym (ap (λ (p : Progress). p.place) m.2) ∙ served_place request requests m.0,
+      omega (arith, served_left request requests m.0, ap (λ (p : Progress). length p.left) m.2),
+    )
+
+nowhere : (number : ℕ) (es : List Event) → leads_to None number es ≡ None
+nowhere number [] = refl
+nowhere number (e ∷ es) = nowhere (number + 1) es
+
+-- an event that the lane made, and one that it did not
+theirs : (p mid : Progress) (e : Event) (es : List Event) (q : Progress) → (e.lane == 1) ≡ false → p ≡ mid → Counted mid es q → Counted p (e ∷ es) q
+theirs p mid e es q other same rest = subst (λ (x : Progress). Counted x (e ∷ es) q) (sym same) (record {
+  asked = rw other (omega (arith, rest.asked));
+  answered = rw other (omega (arith, rest.answered));
+  fetched = λ root. rw other (omega (arith, rest.fetched root));
+})
+
+ours : (p mid : Progress) (number : ℕ) (e : Event) (es : List Event) (q : Progress) → (e.lane == 1) ≡ true → goes_for p.left p.place number e.act ≡ Some mid → Counted mid es q → Counted p (e ∷ es) q
+ours p mid number e es q lane goes rest =
+    let m = moved p.left p.place number e.act mid goes in
+    let asked = subst (λ (place : Place). asks e.act + asked_at p.place ≡ asked_at place + answers e.act) (sym m.2) m.1.asked in
+    let answered : answers e.act + length mid.left ≡ length p.left = omega (arith, m.1.answered, m.3) in
+    record {
+      asked = rw lane (omega (arith, asked, answered, rest.asked));
+      answered = rw lane (omega (arith, answered, rest.answered));
+      fetched = λ root.
+          let fetched = subst (λ (place : Place). grants root e.act + granted_at root p.place ≡ ends root e.act + granted_at root place) (sym m.2) (m.1.fetched root) in
+          rw lane (omega (arith, fetched, rest.fetched root));
+    }
+
+one_progress : (p q : Progress) → ◌≡◌ {A = Option Progress} (Some p) (Some q) → p ≡ q
+one_progress p q h = cc
+
+counts : (p : Progress) (number : ℕ) (es : List Event) (q : Progress) → leads_to (Some p) number es ≡ Some q → Counted p es q
+counts p number [] q h = subst (Counted p []) (one_progress p q h) (record { asked = omega arith; answered = omega arith; fetched = λ root. omega arith })
+counts p number (e ∷ es) q h = on (passes p number e) refl h (λ (mid : Progress). counts mid (number + 1) es q) where
+  made : (lane : Bool) (mid : Progress) → (e.lane == 1) ≡ lane → (if lane then goes_for p.left p.place number e.act else (if number == 1 then Some p else None)) ≡ Some mid → Counted mid es q → Counted p (e ∷ es) q
+  made true mid lane is rest = ours p mid number e es q lane is rest
+  made false mid lane is rest = first (number == 1) is where
+    first : (t : Bool) → ◌≡◌ {A = Option Progress} (if t then Some p else None) (Some mid) → Counted p (e ∷ es) q
+    first true is = theirs p mid e es q lane (one_progress p mid is) rest
+    first false is = absurd cc
+
+  on : (o : Option Progress) → passes p number e ≡ o → leads_to o (number + 1) es ≡ Some q → ((mid : Progress) → leads_to (Some mid) (number + 1) es ≡ Some q → Counted mid es q) → Counted p (e ∷ es) q
+  on None is h rest = let none = sym (nowhere (number + 1) es) ∙ h in absurd cc
+  on (Some mid) is h rest = made (e.lane == 1) mid refl is (rest mid h)
+
+pub balances : (requests left : List Request) (place : Place) (history : List Event) → progress requests history ≡ Some (record { left = left; place = place }) → Balances requests left place history
+balances requests left place history h =
+    let c = counts (record { left = requests; place = Rest }) 1 history (record { left = left; place = place }) h in
+    record { asked = omega (arith, c.asked); answered = c.answered; fetched = λ root. omega (arith, c.fetched root) }

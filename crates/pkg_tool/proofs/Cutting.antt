@@ -1,0 +1,42 @@
+-- Texts with a given front, and texts that are cut at a byte.
+use Rattle.std.proofs.Common.{◌≡◌, ◌≢◌, ℕ, ◌+◌, true, false, List, ◌∷◌, ◌++◌, length, take, drop, All, refl, sym, ap, subst, ◌∙◌, eqb, inl, inr, arith}
+use Rattle.std.specs.Str.{bytes_eq}
+use Rattle.std.proofs.Math.Seq.{take-append_seam}
+use Rattle.std.proofs.lemmas.List.{take-append-drop, length-append, get_or_at}
+use Rattle.std.proofs.lemmas.Bool.Decides.{eqb_tells}
+use Rattle.std.specs.Borrow.{Bor}
+use Rattle.std.specs.Prelude.{Option, Some, None, MatchOption, IfSome, IfNone}
+use Rattle.std.proofs.lemmas.Slice.Eq.{bytes_eq-Decides}
+
+pub eqb-apart : (a b : ℕ) → a ≢ b → eqb a b ≡ false
+eqb-apart a b apart = elim (eqb_tells a b) [ inl same ↦ absurd (apart same.1) | inr other ↦ other.0 ]
+
+pub eqb-same : (a : ℕ) → eqb a a ≡ true
+eqb-same a = elim (eqb_tells a a) [ inl same ↦ same.0 | inr other ↦ absurd (other.1 refl) ]
+
+pub front_is : (text front : List ℕ) → bytes_eq (take (length front) text) front ≡ true → text ≡ front ++ drop (length front) text
+front_is text front same =
+    sym (take-append-drop (length front) text) ∙ ap (λ (x : List ℕ). x ++ drop (length front) text) ((bytes_eq-Decides (take (length front) text) front).0 same)
+
+pub front_is_not : (text front : List ℕ) → bytes_eq (take (length front) text) front ≡ false → (rest : List ℕ) → text ≡ front ++ rest → ⊥
+front_is_not text front differs rest e =
+    let is : take (length front) text ≡ front = ap (take (length front)) e ∙ take-append_seam front rest in
+    let same = (bytes_eq-Decides (take (length front) text) front).1 is in
+    cc
+
+pub has_the_byte : (byte : ℕ) (text front back : List ℕ) → All (λ c. c ≢ byte) text → text ≡ front ++ byte ∷ back → ⊥
+has_the_byte byte text front back none e =
+    subst (All (λ c. c ≢ byte)) e none (length front) 0 (omega (arith, length-append front (byte ∷ back))) (get_or_at front byte back 0 (length front) refl)
+
+-- what `strip_prefix` answers
+pub found_behind : (text front : List ℕ) (r : Option (Bor (List ℕ))) → MatchOption r (bytes_eq (take (length front) text) front ≡ false)
+    (λ x. (bytes_eq (take (length front) text) front ≡ true) × (x.now ≡ drop (length front) text) × (length x.now + length front ≡ length text))
+    → IfSome r (λ rest. text ≡ front ++ rest.now)
+found_behind text front (Some x) h = front_is text front h.0 ∙ ap (λ (rest : List ℕ). front ++ rest) (sym h.1)
+found_behind text front None h = tt
+
+pub none_behind : (text front : List ℕ) (r : Option (Bor (List ℕ))) → MatchOption r (bytes_eq (take (length front) text) front ≡ false)
+    (λ x. (bytes_eq (take (length front) text) front ≡ true) × (x.now ≡ drop (length front) text) × (length x.now + length front ≡ length text))
+    → IfNone r ((rest : List ℕ) → text ≢ front ++ rest)
+none_behind text front (Some x) h = tt
+none_behind text front None h = λ rest e. front_is_not text front h rest e

@@ -1,0 +1,16 @@
+mod Outputs
+mod Cutting
+mod Lines
+mod Urls
+mod Grammar
+mod Protected
+mod Stock
+mod Parts
+mod StoreSteps
+mod StoreGrowth
+mod Settled
+mod Going
+mod Carried
+mod Judged
+mod OneWay
+mod Counts

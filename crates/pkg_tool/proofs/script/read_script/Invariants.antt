@@ -1,0 +1,14 @@
+use Rattle.std.proofs.Common.{length, ◌≤◌, ◌+◌, vec_len}
+use Rattle.pkg_tool.specs.Script.{request_limit}
+use Rattle.pkg_tool.proofs.Lines.{StandsAt}
+use Rattle.pkg_tool.proofs.script.read_script.Given as goal
+
+abbrev pub invariant-loop-rest : goal.invariant-loop-rest
+invariant-loop-rest l = record {
+  stands : StandsAt l.text l.rest l.number l.requests.items;
+  few : vec_len l.requests ≤ request_limit;
+  numbered : l.number + length l.rest ≤ length l.text;
+}
+
+abbrev pub decreases-loop-rest : goal.decreases-loop-rest
+decreases-loop-rest l = length l.rest

@@ -1,0 +1,13 @@
+pub mod Words
+pub mod Written
+pub mod Files
+pub mod Replies
+pub mod Places
+pub mod Text
+pub mod Script
+pub mod Serving
+pub mod Holding
+pub mod Mirrors
+pub mod Fetching
+pub mod Running
+pub mod Counting

@@ -1,0 +1,127 @@
+//! Serving a request: the lane asks for the package, fetches what is missing, and opens it.
+
+ghost use Rattle.std.specs.Prelude.{◌≡◌, ◌≤◌, ℕ, List, length, Option, Some, true, IfSome, IfOk, OnOk, OnErr};
+ghost use Rattle.pkg_tool.specs.declared.script.Request.{Request as RequestOf};
+ghost use Rattle.pkg_tool.specs.declared.store.Held.TheVariants.{Nothing};
+ghost use Rattle.pkg_tool.specs.Files.{File, file_at};
+ghost use Rattle.pkg_tool.specs.Holding.{ticket_of, root_of, IsTicket, IsClaim, IsRoomless, is_settled, place_of};
+ghost use Rattle.pkg_tool.specs.Fetching.{Fetches};
+ghost use Rattle.pkg_tool.specs.Serving.{Serves, ServesFrontOf};
+ghost use Rattle.pkg_tool.specs.Serving.Place.{Rest, Cut};
+
+use crate::repo::{FILE_LIMIT, FileReply, FirstRepo};
+use crate::script::Request;
+use crate::store::Store;
+use pkg_names::{Bytes, Root};
+use std::alloc::{AllocError, Global};
+use store_model::{Miss, WantEnd};
+
+/// Serves one request, to its end or until memory is short.
+pub(crate) fn serve<R: FirstRepo>(
+    alloc: Global,
+    store: &mut Store,
+    repo: &mut R,
+    request: &Request,
+) -> Result<(), AllocError>
+    requires { store.old.held ≡ Nothing }
+    ensures held { store.new.held ≡ Nothing }
+    ensures ok { OnOk result (Serves request.now Rest Rest store.old.history store.new.history) }
+    ensures err { OnErr result (ServesFrontOf request.now store.old.history store.new.history) }
+    ensures fetches { Fetches (R.files repo.old) (R.faults repo.old) (R.faults repo.new) store.old.history store.new.history }
+    ensures files { R.files repo.new ≡ R.files repo.old }
+{
+    store.begin(alloc, &request.path, request.root)?;
+    arrive(alloc, store, repo)
+}
+
+// Brings the package that arrives to its end.
+fn arrive<R: FirstRepo>(alloc: Global, store: &mut Store, repo: &mut R) -> Result<(), AllocError>
+    requires { IsTicket store.old.held }
+    ensures held { store.new.held ≡ Nothing }
+    ensures ok { OnOk result ((request : RequestOf) → Serves request (place_of store.old.held) Rest store.old.history store.new.history) }
+    ensures err { OnErr result ((request : RequestOf) → Serves request (place_of store.old.held) Cut store.old.history store.new.history) }
+    ensures fetches { Fetches (R.files repo.old) (R.faults repo.old) (R.faults repo.new) store.old.history store.new.history }
+    ensures files { R.files repo.new ≡ R.files repo.old }
+{
+    loop {
+        let reply = match store.want(alloc) {
+            Ok(reply) => reply,
+            Err(e) => {
+                store.give_up();
+                return Err(e);
+            }
+        };
+        let WantEnd::Fetch(root) = reply else {
+            return Ok(());
+        };
+        fetch(alloc, store, repo, &root)?;
+    }
+}
+
+// Fetches the claimed blob. The claim ends; without memory for it, so does the ticket.
+fn fetch<R: FirstRepo>(
+    alloc: Global,
+    store: &mut Store,
+    repo: &mut R,
+    root: &Root,
+) -> Result<(), AllocError>
+    requires claim { IsRoomless store.old.held }
+    requires root { root.now ≡ root_of store.old.held }
+    ensures ticket { OnOk result (IsTicket store.new.held) }
+    ensures settled { OnOk result (is_settled store.new ≡ true) }
+    ensures ok { OnOk result ((request : RequestOf) → Serves request (place_of store.old.held) (place_of store.new.held) store.old.history store.new.history) }
+    ensures held { OnErr result (store.new.held ≡ Nothing) }
+    ensures err { OnErr result ((request : RequestOf) → Serves request (place_of store.old.held) Cut store.old.history store.new.history) }
+    ensures fetches { Fetches (R.files repo.old) (R.faults repo.old) (R.faults repo.new) store.old.history store.new.history }
+    ensures files { R.files repo.new ≡ R.files repo.old }
+{
+    match repo.file(alloc, root) {
+        FileReply::Found(bytes) => keep(alloc, store, bytes),
+        FileReply::Absent => {
+            store.miss(Miss::Absent);
+            Ok(())
+        }
+        FileReply::Failed => {
+            store.miss(Miss::Read);
+            Ok(())
+        }
+        FileReply::NoMemory => {
+            leave(store);
+            Err(AllocError)
+        }
+    }
+}
+
+// Makes room for the claimed blob and lands its bytes.
+fn keep(alloc: Global, store: &mut Store, bytes: Bytes) -> Result<(), AllocError>
+    requires claim { IsRoomless store.old.held }
+    requires short { length bytes ≤ FILE_LIMIT }
+    ensures ticket { OnOk result (IsTicket store.new.held) }
+    ensures settled { OnOk result (is_settled store.new ≡ true) }
+    ensures ok { OnOk result ((request : RequestOf) → Serves request (place_of store.old.held) (place_of store.new.held) store.old.history store.new.history) }
+    ensures held { OnErr result (store.new.held ≡ Nothing) }
+    ensures err { OnErr result ((request : RequestOf) → Serves request (place_of store.old.held) Cut store.old.history store.new.history) }
+    ensures fetches { (files : Option (List File)) (before after : ℕ) → before ≤ after → IfSome files (λ all. file_at all (root_of store.old.held) ≡ Some bytes)
+        → Fetches files before after store.old.history store.new.history }
+{
+    if let Err(e) = store.room(bytes.as_slice().len() as u64) {
+        leave(store);
+        return Err(e);
+    }
+    if let Err(e) = store.land(alloc, bytes) {
+        leave(store);
+        return Err(e);
+    }
+    Ok(())
+}
+
+// Ends the claim and the ticket, for want of memory.
+fn leave(store: &mut Store)
+    requires { IsClaim store.old.held }
+    ensures held { store.new.held ≡ Nothing }
+    ensures serves { (request : RequestOf) → Serves request (place_of store.old.held) Cut store.old.history store.new.history }
+    ensures fetches { (files : Option (List File)) (before after : ℕ) → before ≤ after → Fetches files before after store.old.history store.new.history }
+{
+    store.miss(Miss::Memory);
+    store.give_up();
+}
