@@ -7,6 +7,7 @@ use Rattle.disk_model.specs.declared.act.Act.TheVariants.{Wrote, Failed, Synced}
 use Rattle.disk_model.specs.Past.{Page, Pages, page_at, zero_page, zero_pages, Past, IsPage, IsActIn, HasPage, IsPast, then_act, state_of, MayRead}
 use Rattle.disk_model.specs.Images.{contents_after, contents}
 use Rattle.disk_model.specs.Kept.{IsKept}
+use Rattle.disk_model.proofs.Regions.{all_push}
 use Rattle.disk_model.proofs.ImageLemmas.{now-contents, length-contents_after}
 
 zeros_below : (count i : ℕ) → get_or (replicate {A = ℕ} count 0) i 0 < 256
@@ -37,10 +38,6 @@ contents_after-append [] ys pages = refl
 contents_after-append (Wrote n bytes ∷ xs) ys pages = contents_after-append xs ys (set pages n bytes)
 contents_after-append (Failed n bytes ∷ xs) ys pages = contents_after-append xs ys pages
 contents_after-append (Synced ∷ xs) ys pages = contents_after-append xs ys pages
-
-all_push : (P : Act → Type 0) (xs : List Act) (x : Act) → AllByRecursion P xs → P x → AllByRecursion P (xs ++ x ∷ [])
-all_push P [] x all p = (p, tt)
-all_push P (y ∷ xs) x all p = (all.0, all_push P xs x all.1 p)
 
 pub told_act : (count : ℕ) (past : Past) (act : Act) → IsPast count past → IsActIn (λ n. n < count) act → HasPage act → IsPast count (then_act past act)
 told_act count past act told within page = record {

@@ -7,7 +7,7 @@ use Rattle.disk_model.specs.Past.{Page, Pages, page_at, Past, IsActIn, then_act,
 use Rattle.disk_model.specs.Images.{EachImage, IsSettled, IsWritten, GoesOn, Both, Keeps, AtEach, WritesOnly}
 use Rattle.disk_model.proofs.Moments.{Tried, Ended, each_write, each_sync, at_start, at_write, at_sync, at_then, written_write, written_sync}
 
-all_push : (P : Act → Type 0) (xs : List Act) (x : Act) → AllByRecursion P xs → P x → AllByRecursion P (xs ++ x ∷ [])
+pub all_push : (P : Act → Type 0) (xs : List Act) (x : Act) → AllByRecursion P xs → P x → AllByRecursion P (xs ++ x ∷ [])
 all_push P [] x all p = (p, tt)
 all_push P (y ∷ xs) x all p = (all.0, all_push P xs x all.1 p)
 

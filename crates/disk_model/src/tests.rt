@@ -60,6 +60,21 @@ fn listed_calls_fail(rt: HostRuntime) -> Result<(), Fail> {
     Ok(())
 }
 
+// A write without memory for its act. With memory for all it is a plain write, so the gate runs this
+// test once more with an allocation that fails.
+#[test]
+fn starves(rt: HostRuntime) -> Result<(), Fail> {
+    let Ok(mut disk) = mem(rt.alloc(), 1, 0) else {
+        return Ok(());
+    };
+    assert_eq!(rt; disk.pages(), 1);
+    let wrote = put(&mut disk, 0, 5);
+    assert_eq!(rt; disk.starved(), !wrote);
+    assert_eq!(rt; disk.acts(), if wrote { 1 } else { 0 });
+    assert_eq!(rt; got(&mut disk, 0), Some(if wrote { 5 } else { 0 }));
+    Ok(())
+}
+
 #[test]
 fn a_fuse_passes_two(rt: HostRuntime) -> Result<(), Fail> {
     let mut disk = FuseDisk::make(mem(rt.alloc(), 2, 0)?, 2);

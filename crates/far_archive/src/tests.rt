@@ -182,9 +182,9 @@ fn examples(rt: HostRuntime) -> Result<(), Fail> {
     let one = write_far(alloc, &[entry(alloc, b"a", b"x")?])?;
     assert!(rt; reads_back(one, &ONE, 8192, &[(b"a", b"x")]));
     let mut lines = b"data/a=".to_vec(alloc)?;
-    lines.extend_from_slice(&[b'1'; 64])?;
+    lines.extend_from_slice(b"df6d2bb7dac8a27c99a0ac498fabc106e94eab93dc88d40b2e313aeae33cb5a6")?;
     lines.extend_from_slice(b"\ndata/b=")?;
-    lines.extend_from_slice(&[b'2'; 64])?;
+    lines.extend_from_slice(b"621793bc7601a585f6312259b49880f4c54f5983354b94d1eee9038f7f77ad88")?;
     lines.push(b'\n')?;
     let package = b"{\"name\":\"example\",\"version\":\"0\"}".as_slice();
     let contents = lines.as_slice();

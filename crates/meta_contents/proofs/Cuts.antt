@@ -1,7 +1,7 @@
 -- Cutting texts into lines, and a line at its last `=`.
 use Rattle.std.proofs.Common.{◌≡◌, ◌≢◌, ℕ, ◌+◌, ◌-◌, ◌<◌, true, false, eqb, List, [], ◌∷◌, ◌++◌, length, get_or, take, drop, All, Option, Some, None, refl, sym, ap, subst, ◌∙◌}
 use Rattle.std.specs.List.{slice_split}
-use Rattle.std.proofs.lemmas.Bool.{eqb-true, false_from_ne_true}
+use Rattle.std.proofs.lemmas.Bool.{false_from_ne_true, ne_eqb}
 use Rattle.std.proofs.lemmas.List.{take-append-drop, drop_more, take_rest}
 use Rattle.std.proofs.lemmas.List.Elements.{All-head, All-tail}
 use Rattle.std.proofs.lemmas.List.Splits.{slice_split_none, slice_split_at}
@@ -11,9 +11,6 @@ use Rattle.pkg_names.specs.FileText.{IsFile, is_file_text}
 use Rattle.pkg_names.proofs.FileTests.{is_file_text-Decides}
 use Rattle.meta_contents.specs.Lines.{last_cut, said}
 
-differs : (c d : ℕ) → c ≢ d → eqb c d ≡ false
-differs c d ne = false_from_ne_true (eqb c d) (λ e. ne (eqb-true c d e))
-
 -- a text is cut at a byte
 cut_at : (text : List ℕ) (at byte : ℕ) → at < length text → get_or text at 0 ≡ byte → text ≡ take at text ++ byte ∷ drop (at + 1) text
 cut_at text at byte lt is =
@@ -22,7 +19,7 @@ cut_at text at byte lt is =
 -- ---- lines
 
 none_pass : (byte : ℕ) (text : List ℕ) → All (λ c. c ≢ byte) text → All (λ c. eqb c byte ≡ false) text
-none_pass byte text h k d lt = differs _ byte (h k d lt)
+none_pass byte text h k d lt = ne_eqb _ byte (h k d lt)
 
 pub one_line : (text : List ℕ) → All (λ c. c ≢ 10) text → slice_split (λ c. eqb c 10) text ≡ text ∷ []
 one_line text h = slice_split_none (λ c. eqb c 10) text (none_pass 10 text h)
@@ -38,7 +35,7 @@ more_lines text at lt feed first =
 pub no_cut : (line : List ℕ) → All (λ c. c ≢ 61) line → last_cut line ≡ None
 unfolding last_cut
 no_cut [] h = refl
-no_cut (c ∷ rest) h = rw (no_cut rest (All-tail (λ x. x ≢ 61) c rest h), differs c 61 (All-head (λ x. x ≢ 61) c rest h)) refl
+no_cut (c ∷ rest) h = rw (no_cut rest (All-tail (λ x. x ≢ 61) c rest h), ne_eqb c 61 (All-head (λ x. x ≢ 61) c rest h)) refl
 
 pub cut_at_last : (a b : List ℕ) → All (λ c. c ≢ 61) b → last_cut (a ++ 61 ∷ b) ≡ Some (a, b)
 unfolding last_cut

@@ -3,7 +3,7 @@ use Rattle.std.proofs.Common.{◌≡◌, ◌≢◌, ℕ, zero, suc, ◌+◌, ◌
 use Rattle.std.specs.Prelude.{IsUtf8, IsAscii}
 use Rattle.std.specs.List.{slice_split, join_with_byte, IsDistinct, AllByRecursion, AllPass}
 use Rattle.std.specs.Str.{bytes_eq, is_utf8}
-use Rattle.std.proofs.lemmas.Bool.{le-ltb, cases_lt, eqb-true, eq-eqb, false_from_ne_true}
+use Rattle.std.proofs.lemmas.Bool.{le-ltb, cases_lt, eqb-true, eq-eqb, ne_eqb}
 use Rattle.std.proofs.lemmas.Bool.Decides.{nat_tests}
 use Rattle.std.proofs.lemmas.List.{append-nil, length-append, append_cancel_right, take_at, get_or_past, get_or_at, drop_all, take-append-drop, drop_more, nil_from_length}
 use Rattle.std.proofs.lemmas.List.Elements.{All-head, All-tail, All-cons, All-append}
@@ -20,9 +20,6 @@ use Rattle.meta_contents.specs.Contents.{Pair, paths, is_in_meta, is_among, Stan
 use Rattle.meta_contents.proofs.Cuts.{cut_at_last}
 use Rattle.meta_contents.proofs.Placing.{among_more, is_placed}
 use Rattle.meta_contents.proofs.Law.{are_read, are_contents, has_a_line, in_text}
-
-differs : (c d : ℕ) → c ≢ d → eqb c d ≡ false
-differs c d ne = false_from_ne_true (eqb c d) (λ e. ne (eqb-true c d e))
 
 -- ---- digits
 
@@ -87,7 +84,7 @@ text_joined pair (next ∷ list) =
     ∙ sym (append_assoc (line_text pair) (10 ∷ joined (next ∷ list)) (10 ∷ []))
 
 none_feed : (text : List ℕ) → All (λ c. c ≢ 10) text → All (λ c. eqb c 10 ≡ false) text
-none_feed text h k d lt = differs _ 10 (h k d lt)
+none_feed text h k d lt = ne_eqb _ 10 (h k d lt)
 
 split_joined : (pair : Pair) (list : List Pair) → All Plain (pair ∷ list) → slice_split (λ c. eqb c 10) (joined (pair ∷ list)) ≡ map line_text (pair ∷ list)
 split_joined pair [] h = slice_split_none (λ c. eqb c 10) (line_text pair) (none_feed (line_text pair) (All-head Plain pair [] h).feed)
@@ -122,12 +119,12 @@ joined_utf8 pair (next ∷ list) h =
 -- ---- the lines of a text
 
 lines_unfed : (text : List ℕ) → EndsPlain text → lines text ≡ slice_split (λ c. eqb c 10) text
-lines_unfed text is = rw (differs (length text) 0 (λ e. absurd (omega (arith, is.some))), differs _ 10 is.last) refl
+lines_unfed text is = rw (ne_eqb (length text) 0 (λ e. absurd (omega (arith, is.some))), ne_eqb _ 10 is.last) refl
 
 lines_fed : (text : List ℕ) → lines (text ++ 10 ∷ []) ≡ slice_split (λ c. eqb c 10) text
 lines_fed text =
     let size : length (text ++ 10 ∷ []) ≡ length text + 1 = length-append text (10 ∷ []) in
-    let some : eqb (length (text ++ 10 ∷ [])) 0 ≡ false = differs _ 0 (λ e. absurd (omega (arith, size))) in
+    let some : eqb (length (text ++ 10 ∷ [])) 0 ≡ false = ne_eqb _ 0 (λ e. absurd (omega (arith, size))) in
     let at : length (text ++ 10 ∷ []) - 1 ≡ length text = omega (arith, size) in
     let last : get_or (text ++ 10 ∷ []) (length (text ++ 10 ∷ []) - 1) 0 ≡ 10 = ap (λ (k : ℕ). get_or (text ++ 10 ∷ []) k 0) at ∙ get_or_at text 10 [] 0 (length text) refl in
     let front : take (length (text ++ 10 ∷ []) - 1) (text ++ 10 ∷ []) ≡ text = ap (λ (k : ℕ). take k (text ++ 10 ∷ [])) at ∙ take_at text (10 ∷ []) (length text) refl in

@@ -4,6 +4,7 @@ ghost use Rattle.std.specs.Prelude.{◌≡◌, ◌↔◌, ◌++◌, ◌≤◌, l
 ghost use Rattle.std.specs.String.{string_bytes};
 ghost use Rattle.pkg_names.specs.Root.{root_text};
 ghost use Rattle.pkg_tool.specs.Replies.{IfFound};
+ghost use Rattle.pkg_main.specs.Found.{found_within};
 
 use pkg_names::{Bytes, Root};
 use pkg_tool::{FILE_LIMIT, FileReply, FirstRepo};
@@ -93,9 +94,19 @@ fn read_whole<F: Read + Drop>(alloc: Global, file: F) -> FileReply
 {
     let mut bytes = Vec::new(alloc);
     match file.take(FILE_LIMIT as u64 + 1).read_to_end(&mut bytes) {
-        Ok(count) if count <= FILE_LIMIT => FileReply::Found(Bytes::make(bytes)),
-        Ok(_) => FileReply::Failed,
+        Ok(_) => reply_with(bytes),
         Err(e) if e.kind() == ErrorKind::OutOfMemory => FileReply::NoMemory,
         Err(_e) => FileReply::Failed,
+    }
+}
+
+// The answer with bytes that were read: a file is found unless it is too long.
+fn reply_with(bytes: Vec<u8>) -> FileReply
+    ensures { result ≡ found_within FILE_LIMIT bytes.items }
+{
+    if bytes.len() <= FILE_LIMIT {
+        FileReply::Found(Bytes::make(bytes))
+    } else {
+        FileReply::Failed
     }
 }

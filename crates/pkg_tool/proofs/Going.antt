@@ -24,7 +24,7 @@ use Rattle.pkg_tool.specs.Holding.{Session, Makes, held_after_want, by_lane, tic
 use Rattle.pkg_tool.specs.Fetching.{FitsFiles, read_miss, read_misses, Fetches, Lands}
 use Rattle.pkg_tool.specs.Serving.{Place, Progress, goes, after_want, after_miss, served_to, passes, leads_to, progress, Serves}
 use Rattle.pkg_tool.specs.Serving.Place.{Rest, Waiting, Granted, Roomy, Giving, Cut}
-use Rattle.pkg_tool.proofs.Cutting.{eqb-same}
+use Rattle.std.proofs.lemmas.Bool.{eq-eqb}
 
 -- ---- one event more
 
@@ -53,7 +53,7 @@ goes_begun request number seen =
     rw ((bytes_eq-Decides request.path.name request.path.name).1 refl, (bytes_eq-Decides request.path.variant request.path.variant).1 refl, root_eq-refl request.root) refl
 
 pub goes_asked : (request : Request) (held : Held) (number : ℕ) (reply : WantEnd) → IsTicket held → goes request (place_of held) number (Want (ticket_of held) reply) ≡ Some (after_want (ticket_of held) reply)
-goes_asked request (Ticket ticket root mark) number reply h = rw (eqb-same ticket) refl
+goes_asked request (Ticket ticket root mark) number reply h = rw (eq-eqb ticket ticket refl) refl
 goes_asked request Nothing number reply h = absurd h
 goes_asked request (Claim ticket root len) number reply h = absurd h
 
@@ -77,12 +77,12 @@ goes_missed request Nothing number why h = absurd h
 goes_missed request (Ticket ticket root mark) number why h = absurd h
 
 pub goes_given : (request : Request) (held : Held) (number : ℕ) → IsTicket held → goes request (place_of held) number (GaveUp (ticket_of held)) ≡ Some Cut
-goes_given request (Ticket ticket root mark) number h = rw (eqb-same ticket) refl
+goes_given request (Ticket ticket root mark) number h = rw (eq-eqb ticket ticket refl) refl
 goes_given request Nothing number h = absurd h
 goes_given request (Claim ticket root len) number h = absurd h
 
 pub goes_left : (request : Request) (ticket number : ℕ) → goes request (Giving ticket) number (GaveUp ticket) ≡ Some Cut
-goes_left request ticket number = rw (eqb-same ticket) refl
+goes_left request ticket number = rw (eq-eqb ticket ticket refl) refl
 
 pub goes_made : (request : Request) (old new : Session) (act : Act) (held : Held) → Makes old act held new → goes request (place_of old.held) (length old.history + 1) act ≡ Some (place_of held)
     → Serves request (place_of old.held) (place_of new.held) old.history new.history

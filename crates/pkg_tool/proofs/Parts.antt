@@ -13,7 +13,7 @@ use Rattle.store_model.proofs.Histories.{goes_on}
 use Rattle.pkg_tool.specs.declared.store.Held.{Held}
 use Rattle.pkg_tool.specs.Mirrors.{Mirrors, IsStore, with_parts, places_of}
 use Rattle.std.proofs.lemmas.List.{length-append}
-use Rattle.pkg_tool.proofs.Cutting.{eqb-apart}
+use Rattle.std.proofs.lemmas.Bool.{ne_eqb}
 
 pub shaped : (s : State) (stock : List Stored) (arriving : List Arrival) (claims : List Claim) → s.stock ≡ stock → s.arriving ≡ arriving → s.claims ≡ claims → s.running ≡ slots.A → s.broken ≡ None
     → s ≡ with_parts s stock arriving claims
@@ -30,7 +30,7 @@ pub record Goes (s : State) (number : ℕ) (e : Event) (blobs : List LookedAt) (
   pub mirrors : Mirrors blobs opened held (step s number e)
 
 pub not_first : (history : List Event) → 0 < length history → (length history + 1 == 1) ≡ false
-not_first history some = eqb-apart (length history + 1) 1 (λ e. absurd (omega arith))
+not_first history some = ne_eqb (length history + 1) 1 (λ e. absurd (omega arith))
 
 -- The store after an event, where the code found this held and leaves that.
 pub noted : (history made : List Event) (spare later : ℕ) (blobs blobs' : List LookedAt) (opened opened' : List Root) (found held held' : Held) (e : Event) → IsStore history spare blobs opened found → found ≡ held

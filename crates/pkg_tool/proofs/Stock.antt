@@ -60,14 +60,11 @@ seen_is blobs opened root have = either (has_root opened root) where
   either false = seen_blob blobs root have (blob_at blobs root) refl
 
 -- the books know a stored blob that was looked at, or that is too long for that
-knows_short : (books : Books) (stock : List Stored) (root : Root) (bytes : List ℕ) → stored_len stock root ≡ Some (length bytes) → Knows root (with_long (with_looked books (landed_seen root bytes)) stock)
-knows_short books stock root bytes len = either (nat_lt meta_limit (length bytes)) refl where
+pub knows_landed : (books : Books) (stock : List Stored) (root : Root) (bytes : List ℕ) → stored_len stock root ≡ Some (length bytes) → Knows root (with_long (with_looked books (landed_seen root bytes)) stock)
+knows_landed books stock root bytes len = either (nat_lt meta_limit (length bytes)) refl where
   either : (long : Bool) → nat_lt meta_limit (length bytes) ≡ long → Knows root (with_long (with_looked books (cond long [] (record { root = root; bytes = bytes } ∷ []))) stock)
   either true is = knows_stored_long books stock root (length bytes) len is
   either false is = knows_long (with_looked books (record { root = root; bytes = bytes } ∷ [])) stock root (knows_pair books (record { root = root; bytes = bytes }))
-
-pub knows_landed : (books : Books) (stock : List Stored) (root : Root) (bytes : List ℕ) → stored_len stock root ≡ Some (length bytes) → Knows root (with_long (with_looked books (landed_seen root bytes)) stock)
-knows_landed books stock root bytes len = knows_short books stock root bytes len
 
 knows_found : (books : Books) (blobs : List LookedAt) (root : Root) → HaveRoots blobs → (o : Option LookedAt) → blob_at blobs root ≡ o → is_some o ≡ true → Knows root (with_long (with_looked books (short_blob o)) (stored blobs))
 knows_found books blobs root have None e some = absurd cc
@@ -75,7 +72,7 @@ knows_found books blobs root have (Some b) e some =
     let is = found (λ (x : LookedAt). merkle_root x.bytes ≡ x.root) (λ (x : LookedAt). root_eq x.root root) blobs b have e in
     let same = root_eq-true b.root root is.1 in
     let len = ap (stored_len (stored blobs)) same ∙ (stored_len_is blobs root ∙ ap (option_map (λ (x : LookedAt). length x.bytes)) e) in
-    subst (λ (r : Root). Knows r (with_long (with_looked books (landed_seen b.root b.bytes)) (stored blobs))) same (knows_short books (stored blobs) b.root b.bytes len)
+    subst (λ (r : Root). Knows r (with_long (with_looked books (landed_seen b.root b.bytes)) (stored blobs))) same (knows_landed books (stored blobs) b.root b.bytes len)
 
 -- A package that is asked for, and stored, is open already, or is known by what was looked at.
 pub known_or_open : (books : Books) (blobs : List LookedAt) (opened : List Root) (root : Root) → HaveRoots blobs → is_stored (stored blobs) root ≡ true

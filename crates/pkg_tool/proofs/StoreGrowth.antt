@@ -25,7 +25,7 @@ use Rattle.pkg_tool.specs.declared.store.Held.TheVariants.{Nothing, Ticket, Clai
 use Rattle.pkg_tool.specs.Fetching.{landed_seen}
 use Rattle.pkg_tool.specs.Holding.{by_lane}
 use Rattle.pkg_tool.specs.Mirrors.{Mirrors, stored, looks}
-use Rattle.pkg_tool.proofs.Cutting.{eqb-same}
+use Rattle.std.proofs.lemmas.Bool.{eq-eqb}
 use Rattle.pkg_tool.proofs.Protected.{Among, among_either, among_left, among_right, still_known, same_known}
 use Rattle.pkg_tool.proofs.Stock.{known_or_open, seen_is, knows_landed, landed_is_seen, stored_push, stored_last, stored_before}
 use Rattle.pkg_tool.proofs.Parts.{Goes, shaped}
@@ -169,7 +169,7 @@ opens blobs opened ticket root s number later is m =
       dirs = now.dirs ++ record { number = number; lane = 1; root = root } ∷ [];
       active = cond (is_some (root_at now.base m.path)) now.active (with_root now.active m.path root);
     } in
-    let next_is : next now number 1 (acts.Want ticket wants.Opened) ≡ then = rw (eqb-same ticket) refl in
+    let next_is : next now number 1 (acts.Want ticket wants.Opened) ≡ then = rw (eq-eqb ticket ticket refl) refl in
     let dirs_are : dir_roots then ≡ dir_roots now ++ root ∷ [] = map-append (λ (d : Directory). d.root) now.dirs (record { number = number; lane = 1; root = root } ∷ []) in
     let looked : HasLooked [] then =
     same_known now.books now.stock (protected_in now) (protected_in then) (known_in_shape blobs opened (Ticket ticket root None) s m)
@@ -180,7 +180,7 @@ opens blobs opened ticket root s number later is m =
       whole = refl;
       boots = sym later;
       goes_on = refl;
-      due = rw (eqb-same ticket) (record { lane = refl; free = refl; answer = rw (names_alone root s.books, is) refl });
+      due = rw (eq-eqb ticket ticket refl) (record { lane = refl; free = refl; answer = rw (names_alone root s.books, is) refl });
       looked = subst (λ (x : State). HasLooked [] x) (sym next_is) looked;
       seen = tt;
     } in
@@ -188,7 +188,7 @@ opens blobs opened ticket root s number later is m =
       due = due;
       mirrors = record {
         path = m.path;
-        shape = shaped _ (stored blobs) [] [] refl (rw (eqb-same ticket) refl) refl refl refl;
+        shape = shaped _ (stored blobs) [] [] refl (rw (eq-eqb ticket ticket refl) refl) refl refl refl;
         dirs = ap dir_roots next_is ∙ (dirs_are ∙ ap (λ (roots : List Root). roots ++ root ∷ []) m.dirs);
         roots = m.roots;
         fresh = tt;

@@ -26,7 +26,7 @@ use Rattle.pkg_tool.specs.declared.store.Held.{Held}
 use Rattle.pkg_tool.specs.declared.store.Held.TheVariants.{Nothing, Ticket, Claim}
 use Rattle.pkg_tool.specs.Holding.{by_lane, mark_of}
 use Rattle.pkg_tool.specs.Mirrors.{Mirrors, IsStore, stored, with_parts, arriving_of, claims_of, IsFresh}
-use Rattle.pkg_tool.proofs.Cutting.{eqb-same}
+use Rattle.std.proofs.lemmas.Bool.{eq-eqb}
 use Rattle.pkg_tool.proofs.Protected.{Among, swap_middle, same_known}
 use Rattle.pkg_tool.proofs.Parts.{Goes, shaped}
 
@@ -99,7 +99,7 @@ pub gives_up : (blobs : List LookedAt) (opened : List Root) (ticket : ℕ) (root
     → Mirrors blobs opened (Ticket ticket root mark) s → Goes s number (by_lane (acts.GaveUp ticket)) blobs opened Nothing
 gives_up blobs opened ticket root mark s number later m =
     plain blobs opened (Ticket ticket root mark) Nothing s number later m (acts.GaveUp ticket) _ _
-    (record { next = refl; unseen = refl; later = refl; due = rw (eqb-same ticket) refl }) (rw (eqb-same ticket) refl) refl tt (λ x h. absurd cc)
+    (record { next = refl; unseen = refl; later = refl; due = rw (eq-eqb ticket ticket refl) refl }) (rw (eq-eqb ticket ticket refl) refl) refl tt (λ x h. absurd cc)
 
 pub goes_without : (blobs : List LookedAt) (opened : List Root) (ticket : ℕ) (root : Root) (len : Option ℕ) (why : Miss) (s : State) (number : ℕ) → (number == 1) ≡ false
     → Mirrors blobs opened (Claim ticket root len) s → Goes s number (by_lane (acts.Missed root why)) blobs opened (Ticket ticket root (mark_of why))
@@ -127,13 +127,13 @@ pub fails : (blobs : List LookedAt) (opened : List Root) (ticket : ℕ) (root : 
     → Mirrors blobs opened (Ticket ticket root (Some end)) s → Goes s number (by_lane (acts.Want ticket (wants.Failed (causes.Fetch end)))) blobs opened Nothing
 fails blobs opened ticket root end s number later m =
     plain blobs opened (Ticket ticket root (Some end)) Nothing s number later m (acts.Want ticket (wants.Failed (causes.Fetch end))) _ _
-    (record { next = refl; unseen = refl; later = refl; due = rw (eqb-same ticket) (record { lane = refl; free = refl; answer = refl }) }) (rw (eqb-same ticket) refl) refl tt (λ x h. absurd cc)
+    (record { next = refl; unseen = refl; later = refl; due = rw (eq-eqb ticket ticket refl) (record { lane = refl; free = refl; answer = refl }) }) (rw (eq-eqb ticket ticket refl) refl) refl tt (λ x h. absurd cc)
 
 pub grants : (blobs : List LookedAt) (opened : List Root) (ticket : ℕ) (root : Root) (s : State) (number : ℕ) → (number == 1) ≡ false → is_stored (stored blobs) root ≡ false
     → Mirrors blobs opened (Ticket ticket root None) s → Goes s number (by_lane (acts.Want ticket (wants.Fetch root))) blobs opened (Claim ticket root None)
 grants blobs opened ticket root s number later missing m =
     plain blobs opened (Ticket ticket root None) (Claim ticket root None) s number later m (acts.Want ticket (wants.Fetch root)) _ _
-    (record { next = refl; unseen = refl; later = refl; due = rw (eqb-same ticket) (record { lane = refl; free = refl; answer = rw (names_alone root s.books, missing) refl }) }) refl refl missing (λ x h. h)
+    (record { next = refl; unseen = refl; later = refl; due = rw (eq-eqb ticket ticket refl) (record { lane = refl; free = refl; answer = rw (names_alone root s.books, missing) refl }) }) refl refl missing (λ x h. h)
 
 -- the store as it is opened
 pub booted : (spare : ℕ) → IsStore (record { lane = 0; act = acts.Boot slots.A []; broke = false } ∷ []) spare [] [] Nothing

@@ -1,5 +1,5 @@
 -- What the books know after an event.
-use Rattle.std.proofs.Common.{◌≡◌, ℕ, Bool, true, false, cond, ◌&&◌, List, [], ◌∷◌, ◌++◌, ◌⊎◌, inl, inr, Option, Some, is_some, refl, ap, subst, ◌∙◌}
+use Rattle.std.proofs.Common.{◌≡◌, ℕ, Bool, true, false, cond, ◌&&◌, List, [], ◌∷◌, ◌++◌, Option, Some, is_some, refl, ap, subst, ◌∙◌}
 use Rattle.std.specs.Prelude.{nat_lt, not}
 use Rattle.pkg_names.specs.declared.root.Root.{Root}
 use Rattle.package_book.specs.Books.{Meta, Books, book_at, root_eq}
@@ -10,10 +10,6 @@ use Rattle.store_model.specs.State.{State, Stored, stored_len, is_stored, has_ro
 use Rattle.store_model.specs.Settling.{meta_limit, with_looked, with_long, looked_books, kept_books, settle, KnowsAll, HasLooked}
 use Rattle.store_model.specs.Step.{IsDue, next, seen_by, step}
 use Rattle.store_model.proofs.Roots.{root_eq-true, root_eq-refl}
-
-pub bool_cases : (b : Bool) → (b ≡ true) ⊎ (b ≡ false)
-bool_cases true = inl refl
-bool_cases false = inr refl
 
 -- what holds of both choices holds of the choice
 pub cond_both : {A : Type 0} (P : A → Type 0) (test : Bool) (x y : A) → P x → P y → P (cond test x y)
