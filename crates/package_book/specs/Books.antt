@@ -1,7 +1,7 @@
 -- What is known of the meta blobs of packages.
-use Rattle.std.specs.Prelude.{◌≡◌, ℕ, Bool, List, [], ◌∷◌, Option, Some, None, if◌then◌else◌}
-use Rattle.std.specs.Str.{bytes_eq}
+use Rattle.std.specs.Prelude.{ℕ, List, [], ◌∷◌, Option, Some, None, if◌then◌else◌}
 use Rattle.pkg_names.specs.declared.root.Root.{Root}
+use Rattle.pkg_names.specs.Root.{root_eq}
 
 -- the bytes of a meta blob, or its length alone, where it is longer than any meta blob may be
 pub data Meta : Type 0 where
@@ -14,10 +14,6 @@ pub record Book : Type 0 where
 
 abbrev pub Books : Type 0
 Books = List Book
-
--- two roots are one
-abbrev pub root_eq : Root → Root → Bool
-root_eq a b = bytes_eq a.0 b.0
 
 -- what is known of a package: its first entry
 abbrev pub book_at : Books → Root → Option Meta

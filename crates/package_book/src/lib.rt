@@ -3,4 +3,4 @@
 
 mod names;
 
-pub use names::{names_of, they_have_laws};
+pub use names::{names_come_from_books, names_of};

@@ -1,15 +1,10 @@
 -- Look-ups by path, the root that a request is for, and the packages that are protected.
-use Rattle.std.specs.Prelude.{◌≡◌, ℕ, ◌&&◌, Bool, List, [], ◌∷◌, ◌++◌, map, Option, Some, None, if◌then◌else◌}
-use Rattle.std.specs.Str.{bytes_eq}
-use Rattle.pkg_names.specs.NameAndVariant.{NameAndVariant}
+use Rattle.std.specs.Prelude.{List, [], ◌∷◌, ◌++◌, map, Option, Some, None, if◌then◌else◌}
+use Rattle.pkg_names.specs.NameAndVariant.{NameAndVariant, path_eq}
 use Rattle.pkg_names.specs.declared.root.Root.{Root}
 use Rattle.pkg_names.specs.declared.pinned.Pinned.{Pinned}
 use Rattle.package_indexes.specs.declared.Choice.{Choice}
 use Rattle.package_indexes.specs.declared.Choice.TheVariants as choices
-
--- two paths are one
-abbrev pub path_eq : NameAndVariant → NameAndVariant → Bool
-path_eq a b = bytes_eq a.name b.name && bytes_eq a.variant b.variant
 
 -- the root of the first pair with this path
 abbrev pub root_at : List Pinned → NameAndVariant → Option Root
@@ -21,7 +16,8 @@ abbrev pub or_else : Option Root → Option Root → Option Root
 or_else (Some root) other = Some root
 or_else None other = other
 
--- The root that a request is for: the pin, or else the base's root for the path, or else the listed one, or else the cached one.
+-- The root that a request is for: the pin, or else the base's root for the path, or else the listed
+-- one, or else the cached one.
 abbrev pub chosen : List Pinned → List Pinned → NameAndVariant → Choice → Option Root
 chosen base cached path (choices.Pinned root) = Some root
 chosen base cached path (choices.Listed root) = or_else (root_at base path) (Some root)
@@ -40,4 +36,5 @@ roots_of pairs = map (λ (pair : Pinned). pair.root) pairs
 
 -- the protected packages: those of the three sets, the retained ones, those that arrive, and those that are open
 abbrev pub protected : List Pinned → List Pinned → List Pinned → List Root → List Root → List Root → List Root
-protected base cached active retained arriving dirs = roots_of base ++ roots_of cached ++ roots_of active ++ retained ++ arriving ++ dirs
+protected base cached active retained arriving dirs =
+    roots_of base ++ roots_of cached ++ roots_of active ++ retained ++ arriving ++ dirs

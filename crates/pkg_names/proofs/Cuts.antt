@@ -1,6 +1,6 @@
 -- A text is cut at the first place of a byte in one way.
-use Rattle.std.proofs.Common.{◌≡◌, ◌≢◌, ℕ, ◌+◌, ◌<◌, List, [], ◌∷◌, ◌++◌, length, get_or, take, drop, All, sym, ap, ◌∙◌, refl}
-use Rattle.std.proofs.lemmas.List.{take-append-drop, drop_more}
+use Rattle.std.proofs.Common.{◌≡◌, ◌≢◌, ℕ, ◌+◌, ◌<◌, List, [], ◌∷◌, ◌++◌, length, get_or, take, drop, All, sym, ap, subst, ◌∙◌, refl, arith}
+use Rattle.std.proofs.lemmas.List.{take-append-drop, drop_more, length-append, get_or_at}
 use Rattle.std.proofs.lemmas.List.Elements.{All-head, All-tail}
 
 -- lists without the byte before their first one
@@ -22,3 +22,8 @@ same_halves byte (x ∷ a) b (y ∷ c) d p q e =
 pub cut_at : (byte : ℕ) (text : List ℕ) (at : ℕ) → at < length text → get_or text at 0 ≡ byte → text ≡ take at text ++ byte ∷ drop (at + 1) text
 cut_at byte text at lt here =
     sym (take-append-drop at text) ∙ ap (λ (rest : List ℕ). take at text ++ rest) (drop_more text at 0 lt ∙ ap (λ (c : ℕ). c ∷ drop (at + 1) text) here)
+
+-- a text without the byte is cut nowhere
+pub has_the_byte : (byte : ℕ) (text front back : List ℕ) → All (λ c. c ≢ byte) text → text ≡ front ++ byte ∷ back → ⊥
+has_the_byte byte text front back none e =
+    subst (All (λ c. c ≢ byte)) e none (length front) 0 (omega (arith, length-append front (byte ∷ back))) (get_or_at front byte back 0 (length front) refl)

@@ -1,5 +1,8 @@
 pub mod Cuts
+pub mod Lines
+pub mod NumberParts
 pub mod RootTexts
+pub mod Roots
 pub mod PathTexts
 mod FileParts
 pub mod FileTests

@@ -1,36 +1,32 @@
 -- A text has one path at most, since no name has a slash.
-use Rattle.std.proofs.Common.{◌≡◌, ◌≢◌, ℕ, ◌+◌, ◌<◌, List, ◌∷◌, ◌⊎◌, inl, inr, length, get_or, take, drop, All, true, refl, sym, ap, subst, ◌∙◌, arith}
+use Rattle.std.proofs.Common.{◌≡◌, ℕ, List, ◌∷◌, ◌++◌, ◌⊎◌, inl, inr, get_or, true, refl, sym, ap, subst, ◌∙◌}
 use Rattle.std.specs.Prelude.{codes, Result, Ok, Err, IfOk, IsErrOf}
 use Rattle.pkg_names.specs.declared.path.PathFault.{PathFault}
 use Rattle.pkg_names.specs.declared.path.PathFault.TheVariants.{BadName, NoMemory}
-use Rattle.std.proofs.lemmas.List.{length-append, get_or_at}
-use Rattle.pkg_names.proofs.Cuts.{same_halves, cut_at}
+use Rattle.pkg_names.proofs.Cuts.{same_halves, has_the_byte}
+use Rattle.pkg_names.specs.Text.{slash, HasNo}
 use Rattle.pkg_names.specs.NameAndVariant.{NameAndVariant, byte_in_name, IsName, IsPath, Spells}
 
--- no byte of the text is a slash
-abbrev pub HasNoSlash : List ℕ → Type 0
-HasNoSlash text = All (λ c. c ≢ 47) text
-
-pub name_has_none : (text : List ℕ) → IsName text → HasNoSlash text
+pub name_has_none : (text : List ℕ) → IsName text → HasNo slash text
 name_has_none text name k d lt e =
     let pass : byte_in_name (get_or text k d) ≡ true = name.bytes k d lt in
-    let slash : byte_in_name 47 ≡ true = subst (λ c. byte_in_name c ≡ true) e pass in
+    let found : byte_in_name slash ≡ true = subst (λ c. byte_in_name c ≡ true) e pass in
     cc
 
 -- the path of a text with a slash
-pub spelled_with : (text : List ℕ) (at : ℕ) → at < length text → get_or text at 0 ≡ 47 → HasNoSlash (take at text)
-    → (path : NameAndVariant) → Spells text path → (path.name ≡ take at text) × (path.variant ≡ drop (at + 1) text)
-spelled_with text at lt slash first path spells =
+pub spelled_with : (text name variant : List ℕ) → text ≡ name ++ slash ∷ variant → HasNo slash name
+    → (path : NameAndVariant) → Spells text path → (path.name ≡ name) × (path.variant ≡ variant)
+spelled_with text name variant cut first path spells =
     elim spells.1 [
-      | inl whole ↦ same_halves 47 path.name path.variant (take at text) (drop (at + 1) text) (name_has_none path.name spells.0.0) first (sym whole ∙ cut_at 47 text at lt slash)
-      | inr alone ↦ absurd (subst HasNoSlash (sym alone.0) (name_has_none path.name spells.0.0) at 0 lt slash)
+      | inl whole ↦ same_halves slash path.name path.variant name variant (name_has_none path.name spells.0.0) first (sym whole ∙ cut)
+      | inr alone ↦ absurd (has_the_byte slash path.name name variant (name_has_none path.name spells.0.0) (sym alone.0 ∙ cut))
     ]
 
 -- the path of a text without a slash
-pub spelled_alone : (text : List ℕ) → HasNoSlash text → (path : NameAndVariant) → Spells text path → (path.name ≡ text) × (path.variant ≡ codes "0")
+pub spelled_alone : (text : List ℕ) → HasNo slash text → (path : NameAndVariant) → Spells text path → (path.name ≡ text) × (path.variant ≡ codes "0")
 spelled_alone text none path spells =
     elim spells.1 [
-      | inl whole ↦ absurd (subst HasNoSlash whole none (length path.name) 0 (omega (arith, length-append path.name (47 ∷ path.variant))) (get_or_at path.name 47 path.variant 0 (length path.name) refl))
+      | inl whole ↦ absurd (has_the_byte slash text path.name path.variant none whole)
       | inr alone ↦ (sym alone.0, alone.1)
     ]
 

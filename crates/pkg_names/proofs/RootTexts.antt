@@ -1,6 +1,6 @@
 -- A text of lower-case digits is the text of one root.
 use Rattle.std.proofs.Common.{◌≡◌, ℕ, ◌+◌, ◌-◌, ◌*◌, ◌/◌, ◌%◌, ◌<◌, ◌≤◌, zero, suc, Bool, true, ◌&&◌, inl, inr, eqb, leb, List, [], ◌∷◌, length, slice_index, Ok, refl, ap, ◌∙◌, arith}
-use Rattle.std.proofs.Common.{Some, None, false, sym, subst}
+use Rattle.std.proofs.Common.{Some, None, IsSome, false, sym, subst}
 use Rattle.std.specs.Bool.{Decides}
 use Rattle.std.specs.List.{AllPass, list_all}
 use Rattle.std.proofs.lemmas.List.Sums.{AllPass-from_list_all, list_all-from_AllPass}
@@ -149,3 +149,15 @@ root_in_spells text root e =
           let none : root_in text ≡ None = rw fails refl in
           absurd cc
     ]
+
+pub root_in_text : (text : List ℕ) (root : Root) → text ≡ root_text root → IsRoot root → root_in text ≡ Some root
+root_in_text text root e is = ap root_in e ∙ root_in-root_text root is
+
+pub root_in-IsSome : (text : List ℕ) → (IsSome (root_in text) → IsRootText text) × (IsRootText text → IsSome (root_in text))
+root_in-IsSome text = (λ h. is_one (eqb (length text) 64 && list_all is_lower_digit text) refl h, λ is. has_one is) where
+  is_one : (test : Bool) → eqb (length text) 64 && list_all is_lower_digit text ≡ test → IsSome (root_in text) → IsRootText text
+  is_one true e h = (is_text_tested text).0 e
+  is_one false e h = let none : root_in text ≡ None = rw e refl in absurd cc
+
+  has_one : IsRootText text → IsSome (root_in text)
+  has_one is = let d = decoded text is in let some = root_in_some text d.0 is d.1 in rw some refl

@@ -1,3 +1,5 @@
+pub mod Text
+pub mod Numbers
 pub mod NameAndVariant
 pub mod FileText
 pub mod Root

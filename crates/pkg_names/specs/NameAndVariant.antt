@@ -1,15 +1,21 @@
 -- Package paths, and their texts.
-use Rattle.std.specs.Prelude.{◌≡◌, ◌≢◌, ℕ, ◌<◌, ◌≤◌, ◌==◌, ◌&&◌, ◌||◌, ◌⊎◌, nat_le, Bool, List, ◌∷◌, ◌++◌, length, codes}
+use Rattle.std.specs.Prelude.{◌≡◌, ◌≢◌, ℕ, ◌<◌, ◌≤◌, ◌==◌, ◌&&◌, ◌||◌, ◌⊎◌, Bool, List, ◌∷◌, ◌++◌, length, codes}
 use Rattle.std.specs.List.{AllPass}
+use Rattle.std.specs.Str.{bytes_eq}
+use Rattle.pkg_names.specs.Text.{hyphen, underscore, full_stop, slash, is_lower_letter, is_digit}
 
 -- `a` to `z`, `0` to `9`, `-`, `_` and `.`
 abbrev pub byte_in_name : ℕ → Bool
-byte_in_name c = (nat_le 97 c && nat_le c 122) || (nat_le 48 c && nat_le c 57) || c == 45 || c == 95 || c == 46
+byte_in_name c = is_lower_letter c || is_digit c || c == hyphen || c == underscore || c == full_stop
+
+-- the most bytes of a name or a variant
+abbrev pub name_limit : ℕ
+name_limit = 255
 
 -- a name or a variant: 1 to 255 such bytes, and neither `.` nor `..`
 pub record IsName (text : List ℕ) : Type 0 where
   pub not_empty : 0 < length text
-  pub not_long : length text ≤ 255
+  pub not_long : length text ≤ name_limit
   pub bytes : AllPass byte_in_name text
   pub not_dot : text ≢ codes "."
   pub not_dots : text ≢ codes ".."
@@ -25,8 +31,12 @@ IsPath path = IsName path.name × IsName path.variant
 
 -- the text of a path, with its variant
 abbrev pub path_text : NameAndVariant → List ℕ
-path_text path = path.name ++ 47 ∷ path.variant
+path_text path = path.name ++ slash ∷ path.variant
 
 -- a text of a path: with its variant, or the name alone where the variant is `0`
 abbrev pub Spells : List ℕ → NameAndVariant → Type 0
 Spells text path = IsPath path × ((text ≡ path_text path) ⊎ ((text ≡ path.name) × (path.variant ≡ codes "0")))
+
+-- two paths are one
+abbrev pub path_eq : NameAndVariant → NameAndVariant → Bool
+path_eq a b = bytes_eq a.name b.name && bytes_eq a.variant b.variant

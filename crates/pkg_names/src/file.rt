@@ -83,7 +83,7 @@ pub fn read_file(alloc: Global, text: &[u8]) -> Result<FilePath, FileFault>
 }
 
 /// The longest file path, in bytes.
-pub const FILE_LIMIT: usize = 4095;
+pub const FILE_PATH_LIMIT: usize = 4095;
 
 /// The longest part of a file path, in bytes.
 pub const SEGMENT_LIMIT: usize = 255;
@@ -105,7 +105,7 @@ fn passes_all(text: &[u8]) -> bool
     ensures { IsTrue result ↔ IsFile text.now }
 {
     !text.is_empty()
-        && text.len() <= FILE_LIMIT
+        && text.len() <= FILE_PATH_LIMIT
         && text.iter().all(|c| *c != 0)
         && text.iter().all(|c| *c != b'\n')
         && has_segments(text)

@@ -5,19 +5,23 @@
 #![tactic(auto)]
 
 mod file;
+mod limits;
 mod lists;
+pub mod numbers;
 mod path;
 mod pinned;
 mod root;
 pub mod streams;
+pub mod text;
 
 pub use file::{
-    FILE_LIMIT, FileFault, FilePath, SEGMENT_LIMIT, files_are_tested, is_file, read_file,
+    FILE_PATH_LIMIT, FileFault, FilePath, SEGMENT_LIMIT, files_are_tested, is_file, read_file,
 };
-pub use lists::{Bytes, Roots, Texts};
-pub use path::{NAME_LIMIT, PackagePath, PathFault, read_path, write_path};
+pub use limits::limits_are_of_the_definitions;
+pub use lists::{Bytes, Items, Roots, Texts};
+pub use path::{NAME_LIMIT, PackagePath, PathFault, paths_are_compared, read_path, write_path};
 pub use pinned::Pinned;
-pub use root::{Root, RootFault, read_root, write_root};
+pub use root::{Root, RootFault, read_root, roots_have_texts, write_root};
 
 #[cfg(test)]
 mod tests;

@@ -7,97 +7,78 @@ use crate::root::Root;
 use std::alloc::{AllocError, Global};
 use std::marker::Model;
 
-/// A vector of bytes.
+/// A vector. Contracts see the list of its items.
 #[derive(Debug, Drop)]
-pub struct Bytes {
-    items: Vec<u8>,
+pub struct Items<T> {
+    items: Vec<T>,
 }
 
-impl Model for Bytes {
-    ghost use Rattle.std.specs.Prelude.{List, ℕ};
+/// A vector of bytes.
+pub type Bytes = Items<u8>;
 
-    ghost Value = { List ℕ };
+/// A vector of roots.
+pub type Roots = Items<Root>;
+
+impl<T> Model for Items<T> {
+    ghost use Rattle.std.specs.Prelude.{List};
+    ghost use Rattle.std.specs.Coded.{coded_list};
+
+    ghost Value = { List T };
+
+    ghost coded = { coded_list T.code };
 
     ghost view = { λ b. b.items.items };
 }
 
-impl Bytes {
-    pub fn make(items: Vec<u8>) -> Bytes
+impl<T> Items<T> {
+    pub fn make(items: Vec<T>) -> Items<T>
         ensures list { result ≡ items.items }
     {
-        Bytes { items }
+        Items { items }
     }
 
-    pub fn as_slice(&self) -> &[u8]
+    pub fn as_slice(&self) -> &[T]
         ensures list { result.now ≡ self.now }
     {
         &self.items
     }
 
     /// The vector that these are.
-    pub fn into_vec(self) -> Vec<u8>
+    pub fn into_vec(self) -> Vec<T>
         ensures list { result.items ≡ self }
     {
         self.items
     }
+}
 
-    /// Equal bytes.
-    pub fn try_copy(&self, alloc: Global) -> Result<Bytes, AllocError>
-        ensures same { IfOk result (λ bytes. bytes ≡ self.now) }
+impl<T: Copy> Items<T> {
+    /// Equal items.
+    pub fn try_copy(&self, alloc: Global) -> Result<Items<T>, AllocError>
+        ensures same { IfOk result (λ items. items ≡ self.now) }
     {
-        Ok(Bytes::make(Vec::from_slice(alloc, self.as_slice())?))
+        Ok(Items::make(Vec::from_slice(alloc, self.as_slice())?))
     }
 }
 
-impl PartialEq for Bytes {
-    ghost use Rattle.std.specs.Prelude.{nat_eq};
+impl<T: PartialEq> PartialEq for Items<T> {
     ghost use Rattle.std.specs.Cmp.Lexicographic.{pointwise};
     ghost use Rattle.std.specs.Cmp.Rules.{comparing};
     ghost use Rattle.std.proofs.Common.{rules};
 
-    ghost eq = { pointwise nat_eq };
+    ghost eq = { pointwise T.eq };
 
     ghost laws = { Prim.search (comparing, rules) };
 
-    fn eq(&self, other: &Bytes) -> bool {
+    fn eq(&self, other: &Items<T>) -> bool {
         self.as_slice() == other.as_slice()
     }
 }
 
-impl Eq for Bytes {
+impl<T: Eq> Eq for Items<T> {
     ghost use Rattle.std.specs.Cmp.Rules.{comparing};
     ghost use Rattle.std.proofs.Common.{rules};
 
     ghost laws = { Prim.search (comparing, rules) };
-}
-
-/// A vector of roots.
-#[derive(Debug, Drop)]
-pub struct Roots {
-    items: Vec<Root>,
-}
-
-impl Model for Roots {
-    ghost use Rattle.std.specs.Prelude.{List};
-    ghost use Rattle.pkg_names.specs.declared.root.Root.{Root};
-
-    ghost Value = { List Root };
-
-    ghost view = { λ r. r.items.items };
-}
-
-impl Roots {
-    pub fn make(items: Vec<Root>) -> Roots
-        ensures list { result ≡ items.items }
-    {
-        Roots { items }
-    }
-
-    pub fn as_slice(&self) -> &[Root]
-        ensures list { result.now ≡ self.now }
-    {
-        &self.items
-    }
 }
 
 /// A text, which contracts see as its bytes.

@@ -1,8 +1,9 @@
-ghost use Rattle.std.specs.Prelude.{◌≡◌, ◌≢◌, ◌<◌, ◌⊎◌, ◌↔◌, length, take, slice_index, All, IfSome, IfNone, IfOk, IsErrOf, IsTrue, Ok, Err};
-ghost use Rattle.pkg_names.specs.NameAndVariant.{NameAndVariant, byte_in_name, IsName, IsPath, path_text, Spells};
+ghost use Rattle.std.specs.Prelude.{◌≡◌, ◌⊎◌, ◌↔◌, IfOk, IsErrOf, IsTrue, Ok, Err};
+ghost use Rattle.pkg_names.specs.NameAndVariant.{NameAndVariant, byte_in_name, IsName, IsPath, path_text, path_eq, Spells};
 ghost use Rattle.pkg_names.specs.declared.path.PathFault.TheVariants.{NoMemory};
 
 use crate::lists::Bytes;
+use crate::text::cut_at;
 use std::alloc::{AllocError, AllocFailed, Global};
 use std::marker::Model;
 
@@ -78,22 +79,14 @@ impl<T: Drop> From<AllocFailed<T>> for PathFault {
 /// Reads `<name>` or `<name>/<variant>`. The variant is `0` where none is written.
 pub fn read_path(alloc: Global, text: &[u8]) -> Result<PackagePath, PathFault>
     ensures found { IfOk result (λ path. Spells text.now path) }
-    ensures only { (path : NameAndVariant) → Spells text.now path → (result ≡ Ok path) ⊎ (result ≡ Err NoMemory) }
+    ensures only { (path : NameAndVariant) → Spells text.now path →
+        (result ≡ Ok path) ⊎ (result ≡ Err NoMemory) }
     ensures bad_name { IsErrOf result PathFault.BadName → (path : NameAndVariant) → ¬ Spells text.now path }
 {
-    match first_slash(text) {
-        Some(at) => path_of(alloc, &text[..at], &text[at + 1..]),
+    match cut_at(text, b'/') {
+        Some((name, variant)) => path_of(alloc, name, variant),
         None => path_of(alloc, text, b"0"),
     }
-}
-
-// Where the first slash stands.
-fn first_slash(text: &[u8]) -> Option<usize>
-    ensures found { IfSome result (λ at. (at < length text.now) × (slice_index text.now at ≡ 47)) }
-    ensures first { IfSome result (λ at. All (λ c. c ≢ 47) (take at text.now)) }
-    ensures none { IfNone result (All (λ c. c ≢ 47) text.now) }
-{
-    text.iter().position(|c| *c == b'/')
 }
 
 // The path of these two parts, if they are names.
@@ -113,6 +106,11 @@ fn path_of(alloc: Global, name: &[u8], variant: &[u8]) -> Result<PackagePath, Pa
 
 /// The longest name or variant, in bytes.
 pub const NAME_LIMIT: usize = 255;
+
+/// One path is another exactly where the test says so.
+pub fn paths_are_compared()
+    ensures { (path other : NameAndVariant) → IsTrue (path_eq path other) ↔ (path ≡ other) }
+{}
 
 fn is_name(text: &[u8]) -> bool
     ensures { IsTrue result ↔ IsName text.now }

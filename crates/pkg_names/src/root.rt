@@ -1,6 +1,7 @@
-ghost use Rattle.std.specs.Prelude.{◌≡◌, ◌↔◌, IsTrue, IsOk, IfOk, Ok};
+ghost use Rattle.std.specs.Prelude.{◌≡◌, ◌↔◌, ℕ, List, IsTrue, IsSome, IsOk, IfOk, Ok, Some};
 ghost use Rattle.std.specs.Result.{result_ok};
-ghost use Rattle.pkg_names.specs.Root.{root_text, is_lower_digit, IsRoot, IsRootText, root_in};
+ghost use Rattle.pkg_names.specs.declared.root.Root.{Root as RootOf};
+ghost use Rattle.pkg_names.specs.Root.{root_text, is_lower_digit, IsRoot, IsRootText, root_in, root_eq};
 
 /// The root of a blob: the Merkle root of its bytes, which names it wherever it is stored.
 #[derive(Clone, Copy, Debug, PartialEq, Eq, PartialOrd, Ord, Hash)]
@@ -27,6 +28,15 @@ pub fn read_root(text: &[u8]) -> Result<Root, RootFault>
     let _ = hex::decode_to_slice(text, &mut bytes);
     Ok(Root(bytes))
 }
+
+/// A text has a root exactly where it is that root's text; and one root is another exactly where the
+/// test says so.
+pub fn roots_have_texts()
+    ensures text { (text : List ℕ) (root : RootOf) →
+        (root_in text ≡ Some root) ↔ ((text ≡ root_text root) × IsRoot root) }
+    ensures some { (text : List ℕ) → IsSome (root_in text) ↔ IsRootText text }
+    ensures same { (root other : RootOf) → IsTrue (root_eq root other) ↔ (root ≡ other) }
+{}
 
 fn is_root_text(text: &[u8]) -> bool
     ensures { IsTrue result ↔ IsRootText text.now }

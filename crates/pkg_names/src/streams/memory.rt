@@ -1,8 +1,8 @@
 //! Streams in memory. Their lists of failing calls count the calls of the object from 1.
 
-ghost use Rattle.std.specs.Prelude.{◌≡◌, ◌+◌, ◌-◌, ◌<◌, ◌≤◌, ◌↔◌, ◌⊎◌, [], length, take, drop, min, IfOk, IsErr, OnErr};
+ghost use Rattle.std.specs.Prelude.{◌≡◌, ◌+◌, ◌-◌, ◌<◌, ◌≤◌, ◌↔◌, ◌⊎◌, [], ◌++◌, length, take, drop, min, IfOk, IsErr, OnErr};
 ghost use Rattle.pkg_names.specs.Streams.{Gave, Rose, Took};
-ghost use Rattle.pkg_names.specs.MemoryStreams.{IsListed};
+ghost use Rattle.pkg_names.specs.MemoryStreams.{IsListed, source_given, source_failed, sink_given, sink_failed};
 
 use crate::lists::Bytes;
 use crate::streams::{Sink, SinkFailed, Source, SourceFailed};
@@ -62,6 +62,15 @@ impl Source for MemSource {
 
         // A listed call fails, and no other.
         ensures listed { IsErr result ↔ IsListed self.old.failing self.old.calls }
+
+        // It gives as many bytes as are left and fit, and touches nothing behind them.
+        ensures count { IfOk result (λ count. count ≡ min (length self.old.left) (length out.old)) }
+        ensures out { IfOk result (λ count. out.new ≡ take count self.old.left ++ drop count out.old) }
+        ensures out_stays { OnErr result (out.new ≡ out.old) }
+
+        // The whole source after the call.
+        ensures given { IfOk result (λ count. self.new ≡ source_given self.old count) }
+        ensures failed { OnErr result (self.new ≡ source_failed self.old) }
     {
         self.calls = self.calls.saturating_add(1);
         if self.failing.contains(&self.calls) {
@@ -78,7 +87,7 @@ impl Source for MemSource {
 // Copies the front of what is left into out, as much as there is and fits.
 fn copy_front(left: &[u8], out: &mut [u8]) -> usize
     ensures count { result ≡ min (length left.now) (length out.old) }
-    ensures copied { take result out.new ≡ take result left.now }
+    ensures copied { out.new ≡ take result left.now ++ drop result out.old }
 {
     let count = left.len().min(out.len());
     out[..count].copy_from_slice(&left[..count]);
@@ -148,10 +157,16 @@ impl Sink for MemSink {
         ensures faults { self.old.faults ≤ self.new.faults }
 
         // It takes all that fits.
-        ensures count { IfOk result (λ count. count ≡ min (length bytes.now) (self.old.room - length self.old.written)) }
+        ensures count { IfOk result
+            (λ count. count ≡ min (length bytes.now) (self.old.room - length self.old.written)) }
 
         // A listed call fails, and a call of a full sink, and no other.
-        ensures listed { IsErr result ↔ (IsListed self.old.failing self.old.calls ⊎ (self.old.room ≤ length self.old.written)) }
+        ensures listed { IsErr result ↔
+            (IsListed self.old.failing self.old.calls ⊎ (self.old.room ≤ length self.old.written)) }
+
+        // The whole sink after the call.
+        ensures given { IfOk result (λ count. self.new ≡ sink_given self.old bytes.now count) }
+        ensures failed { OnErr result (self.new ≡ sink_failed self.old) }
     {
         self.calls = self.calls.saturating_add(1);
         if self.failing.contains(&self.calls) {
@@ -179,7 +194,13 @@ impl Sink for DropSink {
 
     ghost faults = { λ _. 0 };
 
-    fn give(&mut self, bytes: &[u8]) -> Result<usize, SinkFailed> {
+    fn give(&mut self, bytes: &[u8]) -> Result<usize, SinkFailed>
+        requires { 0 < length bytes.now }
+        ensures some { IfOk result (λ count. 0 < count) }
+        ensures within { IfOk result (λ count. count ≤ length bytes.now) }
+        // It takes every byte.
+        ensures all { result ≡ Ok (length bytes.now) }
+    {
         Ok(bytes.len())
     }
 }

@@ -1,17 +1,16 @@
-use Rattle.std.proofs.Common.{◌+◌, ◌-◌, length, take, drop, ◌∷◌, [], sym, ◌∙◌}
-use Rattle.std.proofs.lemmas.List.{take_rest}
+use Rattle.std.proofs.Common.{◌∷◌, []}
 use Rattle.pkg_names.proofs.PathTexts.{spelled_alone, spelled_with, is_read, is_not_bad}
 use Rattle.pkg_names.proofs.path.read_path.Goals as goal
 
 pub returns-in-Some-clause-only : goal.returns-in-Some-clause-only
 returns-in-Some-clause-only c = λ path spells.
-    let cut = spelled_with c.args.text.now c.in-Some.at c.in-Some.ensures.found.0 c.in-Some.ensures.found.1 c.in-Some.ensures.first path spells in
-    is_read c.path_of.result c.args.text.now (take c.in-Some.at c.args.text.now) (take (length c.args.text.now - (c.in-Some.at + 1)) (drop (c.in-Some.at + 1) c.args.text.now)) path (cut.0, cut.1 ∙ sym (take_rest c.args.text.now (c.in-Some.at + 1))) spells c.path_of.ensures.found c.path_of.ensures.bad_name
+    let cut = spelled_with c.args.text.now c.in-Some.name.now c.in-Some.variant.now c.in-Some.ensures.found c.in-Some.ensures.first path spells in
+    is_read c.path_of.result c.args.text.now c.in-Some.name.now c.in-Some.variant.now path cut spells c.path_of.ensures.found c.path_of.ensures.bad_name
 
 pub returns-in-Some-clause-bad_name : goal.returns-in-Some-clause-bad_name
 returns-in-Some-clause-bad_name c = λ e path spells.
-    let cut = spelled_with c.args.text.now c.in-Some.at c.in-Some.ensures.found.0 c.in-Some.ensures.found.1 c.in-Some.ensures.first path spells in
-    is_not_bad c.path_of.result c.args.text.now (take c.in-Some.at c.args.text.now) (take (length c.args.text.now - (c.in-Some.at + 1)) (drop (c.in-Some.at + 1) c.args.text.now)) path (cut.0, cut.1 ∙ sym (take_rest c.args.text.now (c.in-Some.at + 1))) spells c.path_of.ensures.found c.path_of.ensures.bad_name e
+    let cut = spelled_with c.args.text.now c.in-Some.name.now c.in-Some.variant.now c.in-Some.ensures.found c.in-Some.ensures.first path spells in
+    is_not_bad c.path_of.result c.args.text.now c.in-Some.name.now c.in-Some.variant.now path cut spells c.path_of.ensures.found c.path_of.ensures.bad_name e
 
 pub returns-in-None-clause-only : goal.returns-in-None-clause-only
 returns-in-None-clause-only c = λ path spells.

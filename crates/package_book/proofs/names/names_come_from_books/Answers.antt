@@ -1,5 +1,5 @@
 use Rattle.package_book.specs.Names.{has_itself, depends_on, is_listed}
-use Rattle.package_book.proofs.names.they_have_laws.Goals as goal
+use Rattle.package_book.proofs.names.names_come_from_books.Goals as goal
 
 pub returns-clause-itself : goal.returns-clause-itself
 returns-clause-itself c = has_itself
