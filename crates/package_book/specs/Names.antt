@@ -44,11 +44,13 @@ pub has_itself : (top : Root) (books : Books) → HasItself top books
 unfolding levels names
 has_itself top books = record { level = (0, omega arith, refl); named = λ root h. h }
 
-pub depends_on : (top : Root) (books others : Books) → AgreeOn (levels top books) books others → DependsOn top books others
+pub depends_on : (top : Root) (books others : Books)
+    → AgreeOn (levels top books) books others → DependsOn top books others
 unfolding levels names
 depends_on top books others agree = record { levels = refl; names = refl }
 
-pub is_listed : (top root : Root) (books : Books) → Contains (names top books) root → Contains (levels top books) root ⊎ IsListed top root books
+pub is_listed : (top root : Root) (books : Books)
+    → Contains (names top books) root → Contains (levels top books) root ⊎ IsListed top root books
 unfolding levels names
 is_listed top root books named = inl named
 

@@ -16,7 +16,8 @@ pub fn names_of(alloc: Global, root: &Root) -> Result<Roots, AllocError>
 /// The three laws of names and levels. Whatever stands above knows the two by these alone.
 pub fn names_come_from_books()
     ensures itself { (top : RootOf) (books : Books) → HasItself top books }
-    ensures depends { (top : RootOf) (books others : Books) → AgreeOn (levels top books) books others → DependsOn top books others }
+    ensures depends { (top : RootOf) (books others : Books) →
+        AgreeOn (levels top books) books others → DependsOn top books others }
     ensures listed { (top root : RootOf) (books : Books) → Contains (names top books) root →
         Contains (levels top books) root ⊎ IsListed top root books }
 {}

@@ -28,13 +28,16 @@ chosen base cached path choices.Failed = or_else (root_at base path) (root_at ca
 abbrev pub with_root : List Pinned → NameAndVariant → Root → List Pinned
 with_root [] path root = record { path = path; root = root } ∷ []
 with_root (pair ∷ pairs) path root =
-    if path_eq pair.path path then record { path = pair.path; root = root } ∷ pairs else pair ∷ with_root pairs path root
+    if path_eq pair.path path
+    then record { path = pair.path; root = root } ∷ pairs
+    else pair ∷ with_root pairs path root
 
 -- the roots of such pairs
 abbrev pub roots_of : List Pinned → List Root
 roots_of pairs = map (λ (pair : Pinned). pair.root) pairs
 
--- the protected packages: those of the three sets, the retained ones, those that arrive, and those that are open
+-- the protected packages: those of the three sets, the retained ones, those that arrive, and those
+-- that are open
 abbrev pub protected : List Pinned → List Pinned → List Pinned → List Root → List Root → List Root → List Root
 protected base cached active retained arriving dirs =
     roots_of base ++ roots_of cached ++ roots_of active ++ retained ++ arriving ++ dirs

@@ -3,15 +3,15 @@ use Rattle.std.specs.Prelude.{◌≡◌, ℕ, ◌+◌, ◌-◌, ◌^◌, ◌≤�
 use Rattle.std.specs.Option.{option_map}
 
 -- a count that is raised by this much: it stands still at the last value of its type
-abbrev pub raised_by : ℕ → ℕ → ℕ
-raised_by much count = min (count + much) (2 ^ 64 - 1)
+abbrev pub raised_count : ℕ → ℕ → ℕ
+raised_count much count = min (count + much) (2 ^ 64 - 1)
 
 abbrev pub one_more : ℕ → ℕ
-one_more count = raised_by 1 count
+one_more count = raised_count 1 count
 
 -- a count rose by at least this much, or stands at the last value of its type
 abbrev pub RoseBy : ℕ → ℕ → ℕ → Type 0
-RoseBy much before after = raised_by much before ≤ after
+RoseBy much before after = raised_count much before ≤ after
 
 -- a count rose
 abbrev pub Rose : ℕ → ℕ → Type 0

@@ -3,7 +3,7 @@ ghost use Rattle.pkg_names.specs.FileText.{IsFile, IsSegment, segments, is_file_
 ghost use Rattle.pkg_names.specs.declared.file.FileFault.TheVariants.{NoMemory};
 
 use crate::lists::Bytes;
-use std::alloc::{AllocError, AllocFailed, Global};
+use std::alloc::{AllocError, Global};
 use std::marker::Model;
 
 /// The path of a file within a package. Contracts see its bytes.
@@ -55,14 +55,6 @@ impl From<AllocError> for FileFault {
     ghost from_gives = { λ _ e. e ≡ NoMemory };
 
     fn from(_e: AllocError) -> FileFault {
-        FileFault::NoMemory
-    }
-}
-
-impl<T: Drop> From<AllocFailed<T>> for FileFault {
-    ghost from_gives = { λ _ e. e ≡ NoMemory };
-
-    fn from(_e: AllocFailed<T>) -> FileFault {
         FileFault::NoMemory
     }
 }

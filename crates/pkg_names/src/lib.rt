@@ -22,6 +22,3 @@ pub use lists::{Bytes, Items, Roots, Texts};
 pub use path::{NAME_LIMIT, PackagePath, PathFault, paths_are_compared, read_path, write_path};
 pub use pinned::Pinned;
 pub use root::{Root, RootFault, read_root, roots_have_texts, write_root};
-
-#[cfg(test)]
-mod tests;

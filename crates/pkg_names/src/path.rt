@@ -4,7 +4,7 @@ ghost use Rattle.pkg_names.specs.declared.path.PathFault.TheVariants.{NoMemory};
 
 use crate::lists::Bytes;
 use crate::text::cut_at;
-use std::alloc::{AllocError, AllocFailed, Global};
+use std::alloc::{AllocError, Global};
 use std::marker::Model;
 
 /// A package's path: its name and its variant. Contracts see the two byte lists.
@@ -64,14 +64,6 @@ impl From<AllocError> for PathFault {
     ghost from_gives = { λ _ e. e ≡ NoMemory };
 
     fn from(_e: AllocError) -> PathFault {
-        PathFault::NoMemory
-    }
-}
-
-impl<T: Drop> From<AllocFailed<T>> for PathFault {
-    ghost from_gives = { λ _ e. e ≡ NoMemory };
-
-    fn from(_e: AllocFailed<T>) -> PathFault {
         PathFault::NoMemory
     }
 }

@@ -1,7 +1,7 @@
 //! Places and lines in texts.
 
-ghost use Rattle.std.specs.Prelude.{◌≡◌, ◌+◌, ◌<◌, ◌⊎◌, ◌∷◌, ◌++◌, [], length, take, drop, slice_index, IfSome, IfNone};
-ghost use Rattle.pkg_names.specs.Text.{line_feed, HasNo, lines_of};
+ghost use Rattle.std.specs.Prelude.{◌≡◌, ℕ, ◌+◌, ◌<◌, ◌⊎◌, List, [], ◌∷◌, ◌++◌, length, take, drop, slice_index, All, IfSome, IfNone};
+ghost use Rattle.pkg_names.specs.Text.{line_feed, HasNo, lines_of, text_of_lines};
 
 /// Where the byte stands first.
 pub fn first_place(text: &[u8], byte: u8) -> Option<usize>
@@ -45,3 +45,12 @@ pub fn next_line(text: &[u8]) -> (&[u8], &[u8])
         None => (text, b""),
     }
 }
+
+/// A text is its lines, each with a line feed behind it, which the last one may lack. No line has a
+/// line feed, and no text has other lines.
+pub fn texts_are_their_lines()
+    ensures none { (text : List ℕ) → All (HasNo line_feed) (lines_of text) }
+    ensures whole { (text : List ℕ) → (text ≡ text_of_lines (lines_of text))
+        ⊎ (text ++ line_feed ∷ [] ≡ text_of_lines (lines_of text)) }
+    ensures only { (lines : List (List ℕ)) → All (HasNo line_feed) lines → lines_of (text_of_lines lines) ≡ lines }
+{}

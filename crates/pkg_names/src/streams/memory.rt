@@ -25,7 +25,12 @@ impl Model for MemSource {
 
     ghost Value = { SourceInMemory };
 
-    ghost view = { λ s. record { left = drop s.place s.bytes; calls = s.calls; failing = s.failing.items; faults = s.faults } };
+    ghost view = { λ s. record {
+      left = drop s.place s.bytes;
+      calls = s.calls;
+      failing = s.failing.items;
+      faults = s.faults;
+    } };
 
     ghost invariant = { λ s. s.place ≤ length s.bytes };
 }
@@ -42,6 +47,13 @@ impl MemSource {
             failing,
             faults: 0,
         }
+    }
+
+    /// How often it has failed.
+    pub fn faults(&self) -> u64
+        ensures faults { result ≡ self.now.faults }
+    {
+        self.faults
     }
 }
 
@@ -111,7 +123,13 @@ impl Model for MemSink {
 
     ghost Value = { SinkInMemory };
 
-    ghost view = { λ s. record { written = s.bytes.items; room = s.room; calls = s.calls; failing = s.failing.items; faults = s.faults } };
+    ghost view = { λ s. record {
+      written = s.bytes.items;
+      room = s.room;
+      calls = s.calls;
+      failing = s.failing.items;
+      faults = s.faults;
+    } };
 
     ghost invariant = { λ s. (vec_len s.bytes ≤ s.room) × (s.room ≤ vec_capacity s.bytes) };
 }
@@ -119,7 +137,8 @@ impl Model for MemSink {
 impl MemSink {
     /// A sink with room for so many bytes, whose listed calls fail.
     pub fn make(alloc: Global, room: u32, failing: Vec<u64>) -> Result<MemSink, AllocError>
-        ensures made { IfOk result (λ sink. sink ≡ record { written = []; room = room; calls = 0; failing = failing.items; faults = 0 }) }
+        ensures made { IfOk result (λ sink. sink
+            ≡ record { written = []; room = room; calls = 0; failing = failing.items; faults = 0 }) }
     {
         let room = room as usize;
         Ok(MemSink {
@@ -136,6 +155,13 @@ impl MemSink {
         ensures written { result.now ≡ self.now.written }
     {
         &self.bytes
+    }
+
+    /// How often it has failed.
+    pub fn faults(&self) -> u64
+        ensures faults { result ≡ self.now.faults }
+    {
+        self.faults
     }
 }
 
