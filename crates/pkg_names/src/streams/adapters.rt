@@ -1,5 +1,7 @@
 //! Streams over the outside. They tell no bytes, and each failure raises their count.
 
+ghost use Rattle.std.specs.Prelude.{◌≡◌};
+
 use crate::streams::{Sink, SinkFailed, Source, SourceFailed};
 use std::fs::File;
 use std::io::{Read, Write};
@@ -13,7 +15,9 @@ pub struct FileSource {
 
 impl FileSource {
     /// A source over what is left of the file.
-    pub fn attach(file: File) -> FileSource {
+    pub fn attach(file: File) -> FileSource
+        ensures fresh { ⟦<FileSource as Source>⟧.faults result ≡ 0 }
+    {
         FileSource { file, faults: 0 }
     }
 }
@@ -44,7 +48,9 @@ pub struct OutSink<W: Write + Drop> {
 }
 
 impl<W: Write + Drop> OutSink<W> {
-    pub fn attach(writer: W) -> OutSink<W> {
+    pub fn attach(writer: W) -> OutSink<W>
+        ensures fresh { ⟦<OutSink<W> as Sink>⟧.faults result ≡ 0 }
+    {
         OutSink { writer, faults: 0 }
     }
 }
