@@ -1,5 +1,5 @@
 -- Pages that are taken and given back, one after another.
-use Rattle.std.proofs.Common.{◌≡◌, ◌≢◌, ◌⊎◌, ℕ, zero, suc, ◌+◌, ◌-◌, ◌<◌, Bool, true, false, not, cond, List, [], ◌∷◌, ◌++◌, length, get_or, set, take, replicate, sym, refl, ◌∙◌, ap, subst, inl, inr, arith, All, Contains, length-set, length-take-le, get_or-take, get_or-set_same, get_or-set_other}
+use Rattle.std.proofs.Common.{◌≡◌, ◌≢◌, ◌⊎◌, ◌↔◌, ℕ, zero, suc, ◌+◌, ◌-◌, ◌<◌, Bool, true, false, not, cond, List, [], ◌∷◌, ◌++◌, length, get_or, set, take, replicate, sym, refl, ◌∙◌, ap, subst, inl, inr, arith, All, Contains, length-set, length-take-le, get_or-take, get_or-set_same, get_or-set_other}
 use Rattle.std.proofs.lemmas.Bool.{cases_eq, cases_lt, cases_Bool, true≢false}
 use Rattle.std.proofs.lemmas.List.{get_or_append_left, get_or_push, length_push, get_or_past, get_or_default}
 use Rattle.std.proofs.lemmas.List.Elements.{All-push, All-nil}
@@ -7,7 +7,8 @@ use Rattle.std.proofs.lemmas.List.Quantifiers.{all_pairs_push}
 use Rattle.std.proofs.lemmas.List.Sums.{sum_by-set, sum_by-cons, count_by-le-length}
 use Rattle.std.proofs.lemmas.List.Folds.{sum_by-replicate}
 use Rattle.std.proofs.Math.Nat.{mul-one}
-use Rattle.page_pool.specs.Flags.{IsTaken, IsFree, free_count, taken_count, with_flags, AreDistinct, IsFreeList}
+use Rattle.page_pool.specs.Flags.{IsTaken, IsFree, free_count, taken_count, with_flags, AreDistinct}
+use Rattle.page_pool.specs.Pool.{IsFreeList}
 
 -- the pool has a page that is free, and one that is taken
 pub inside_free : (flags : List Bool) (page : ℕ) → IsFree flags page → page < length flags
@@ -74,12 +75,12 @@ cases_cons : (p : ℕ) (pages : List ℕ) (page : ℕ) → p ≢ page → All (�
 cases_cons p pages page ne all zero d lt = ne
 cases_cons p pages page ne all (suc k) d lt = all k d (omega (arith, lt))
 
-none_at : (count n : ℕ) → n < count → get_or (replicate count false) n true ≡ false
+pub none_at : (count n : ℕ) → n < count → get_or (replicate count false) n true ≡ false
 none_at zero n lt = absurd (omega (arith, lt))
 none_at (suc count) zero lt = refl
 none_at (suc count) (suc n) lt = none_at count n (omega (arith, lt))
 
-all_free : (count : ℕ) → free_count (replicate count false) ≡ count
+pub all_free : (count : ℕ) → free_count (replicate count false) ≡ count
 all_free count = sum_by-replicate (λ (b : Bool). cond (not b) 1 0) count false ∙ mul-one count
 
 -- what is free after pages were taken was free before, and is none of them
@@ -202,3 +203,31 @@ give_counted (p ∷ pages) flags taken apart =
 pub are_taken : (pages : List ℕ) (flags : List Bool) → All (IsFree flags) pages → All (IsTaken (with_flags true pages flags)) pages
 are_taken pages flags free = λ k d lt.
     taken_then pages flags (get_or pages k d) (inside_free flags (get_or pages k d) (free k d lt)) (inr (k, lt, get_or_default pages k (get_or pages k d) d lt))
+
+-- pages that were taken are free once they were given back
+pub are_free : (pages : List ℕ) (flags : List Bool) → All (IsTaken flags) pages → All (IsFree (with_flags false pages flags)) pages
+are_free pages flags taken = λ k d lt.
+    let page = get_or pages k d in
+    elim (either (with_flags false pages flags) page (omega (arith, length-with_flags false pages flags, inside_taken flags page (taken k d lt)))) [
+      | inl free ↦ free
+      | inr is ↦ absurd ((given_before pages flags page is).1 k d lt refl)
+    ]
+
+-- where none is counted, no page is free
+pub none_free : (flags : List Bool) → free_count flags ≡ 0 → (page : ℕ) → IsFree flags page → ⊥
+none_free flags none page is = absurd (omega (arith, set_free_count flags page is, none))
+
+pub none_counted : (flags : List Bool) → ((page : ℕ) → IsFree flags page → ⊥) → free_count flags ≡ 0
+none_counted [] none = refl
+none_counted (true ∷ flags) none = omega (arith, sum_by-cons (λ (b : Bool). cond (not b) 1 0) true flags, none_counted flags (λ page. none (suc page)))
+none_counted (false ∷ flags) none = absurd (none 0 refl)
+
+-- as many flags, with the same pages taken, are the same flags
+pub same_flags : (a b : List Bool) → length a ≡ length b → ((page : ℕ) → IsTaken a page ↔ IsTaken b page) → a ≡ b
+same_flags [] [] size is = refl
+same_flags [] (y ∷ b) size is = absurd (omega (arith, size))
+same_flags (x ∷ a) [] size is = absurd (omega (arith, size))
+same_flags (true ∷ a) (true ∷ b) size is = ap (λ (l : List Bool). true ∷ l) (same_flags a b (omega (arith, size)) (λ page. is (suc page)))
+same_flags (false ∷ a) (false ∷ b) size is = ap (λ (l : List Bool). false ∷ l) (same_flags a b (omega (arith, size)) (λ page. is (suc page)))
+same_flags (true ∷ a) (false ∷ b) size is = absurd (true≢false (sym ((is 0).0 refl)))
+same_flags (false ∷ a) (true ∷ b) size is = absurd (true≢false (sym ((is 0).1 refl)))

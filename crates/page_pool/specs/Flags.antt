@@ -1,6 +1,6 @@
 -- A pool is seen as one flag a page: whether the page is taken.
-use Rattle.std.specs.Prelude.{ℕ, ◌≡◌, ◌≢◌, Bool, true, false, not, List, [], ◌∷◌, length, slice_index_or, slice_set}
-use Rattle.std.specs.List.{All, AllPairs, count_by}
+use Rattle.std.specs.Prelude.{ℕ, ◌≡◌, ◌≢◌, Bool, true, false, not, List, [], ◌∷◌, slice_index_or, slice_set}
+use Rattle.std.specs.List.{AllPairs, count_by}
 
 -- the pool has the page, and it is taken; the pool has it, and it is free
 abbrev pub IsTaken : List Bool → ℕ → Type 0
@@ -24,9 +24,3 @@ with_flags flag (page ∷ pages) flags = with_flags flag pages (slice_set flags 
 -- no page stands twice
 abbrev pub AreDistinct : List ℕ → Type 0
 AreDistinct pages = AllPairs (λ a b. a ≢ b) pages
-
--- the list has each free page once
-pub record IsFreeList (free : List ℕ) (flags : List Bool) : Type 0 where
-  pub each : All (IsFree flags) free
-  pub apart : AreDistinct free
-  pub count : length free ≡ free_count flags

@@ -1,6 +1,7 @@
 ghost use Rattle.std.specs.Prelude.{◌≡◌, ◌≢◌, ◌↔◌, ℕ, ◌+◌, ◌^◌, ◌<◌, ◌≤◌, List, [], ◌∷◌, ◌++◌, Bool, true, false, length, replicate, slice_set, vec_len, vec_capacity, IsTrue, IsErr, IfOk, IfErr, OnOk, OnErr};
 ghost use Rattle.std.specs.List.{All};
-ghost use Rattle.page_pool.specs.Flags.{IsTaken, IsFree, free_count, taken_count, with_flags, AreDistinct, IsFreeList};
+ghost use Rattle.page_pool.specs.Flags.{IsTaken, IsFree, free_count, taken_count, with_flags, AreDistinct};
+ghost use Rattle.page_pool.specs.Pool.{IsFreeList};
 
 use std::alloc::{AllocError, Global};
 use std::marker::Model;
@@ -22,19 +23,20 @@ pub struct Pool {
 
 impl Model for Pool {
     ghost use Rattle.std.specs.Prelude.{List, Bool};
-    ghost use Rattle.page_pool.specs.Kept.{IsKept};
+    ghost use Rattle.page_pool.specs.Pool.{IsPool};
 
     ghost Value = { List Bool };
 
     ghost view = { λ p. p.taken.items };
 
-    ghost invariant = { λ p. IsKept p.free p.taken };
+    ghost invariant = { λ p. IsPool p.free p.taken };
 }
 
 impl Pool {
     /// A pool of this number of pages, all free.
     pub fn new(alloc: Global, pages: u32) -> Result<Pool, AllocError>
-        ensures { IfOk result (λ pool. pool ≡ replicate pages false) }
+        ensures flags { IfOk result (λ pool. pool ≡ replicate pages false) }
+        ensures count { IfOk result (λ pool. free_count pool ≡ pages) }
     {
         let free = all_pages(alloc, pages)?;
         let taken = vec![in alloc; false; pages as usize]?;
@@ -53,6 +55,7 @@ impl Pool {
         ensures apart { OnOk result (AreDistinct out.new.items) }
         ensures taken { OnOk result (self.new ≡ with_flags true out.new.items self.old) }
         ensures are_taken { OnOk result (All (IsTaken self.new) out.new.items) }
+        ensures left { OnOk result (free_count self.new + n ≡ free_count self.old) }
         ensures room_stays { vec_capacity out.new ≡ vec_capacity out.old }
         ensures err { OnErr result ((self.new ≡ self.old) × (out.new.items ≡ [])) }
     {
@@ -68,7 +71,9 @@ impl Pool {
     pub fn give(&mut self, pages: &[u32])
         requires taken { All (IsTaken self.old) pages.now }
         requires apart { AreDistinct pages.now }
-        ensures { self.new ≡ with_flags false pages.now self.old }
+        ensures given { self.new ≡ with_flags false pages.now self.old }
+        ensures are_free { All (IsFree self.new) pages.now }
+        ensures count { free_count self.new ≡ free_count self.old + length pages.now }
     {
         give_pages(&mut self.free, &mut self.taken, pages);
     }
@@ -134,6 +139,7 @@ fn take_pages(free: &mut Vec<u32>, taken: &mut [bool], n: u32, out: &mut Vec<u32
     ensures apart { AreDistinct out.new.items }
     ensures taken { taken.new ≡ with_flags true out.new.items taken.old }
     ensures are_taken { All (IsTaken taken.new) out.new.items }
+    ensures left { free_count taken.new + n ≡ free_count taken.old }
     ensures room_stays { vec_capacity out.new ≡ vec_capacity out.old }
     ensures list { IsFreeList free.new.items taken.new }
     ensures room { vec_capacity free.new ≡ vec_capacity free.old }
@@ -163,6 +169,8 @@ fn give_pages(free: &mut Vec<u32>, taken: &mut [bool], pages: &[u32])
     requires apart { AreDistinct pages.now }
     requires space { length taken.old ≤ vec_capacity free.old }
     ensures given { taken.new ≡ with_flags false pages.now taken.old }
+    ensures are_free { All (IsFree taken.new) pages.now }
+    ensures count { free_count taken.new ≡ free_count taken.old + length pages.now }
     ensures list { IsFreeList free.new.items taken.new }
     ensures room { vec_capacity free.new ≡ vec_capacity free.old }
 {

@@ -1,5 +1,8 @@
-use Rattle.page_pool.proofs.FlagLemmas.{taken_then, taken_before, still_taken, given_before, take_counted, give_counted}
+use Rattle.page_pool.proofs.FlagLemmas.{length-with_flags, taken_then, taken_before, still_taken, given_before, take_counted, give_counted}
 use Rattle.page_pool.proofs.laws.taken_after.Goals as goal
+
+pub returns-clause-length : goal.returns-clause-length
+returns-clause-length c = λ flag flags pages. length-with_flags flag pages flags
 
 pub returns-clause-take : goal.returns-clause-take
 returns-clause-take c = λ flags pages page lt. (taken_before pages flags page, taken_then pages flags page lt)

@@ -1,5 +1,6 @@
 use Rattle.std.proofs.Common.{◌≡◌, false, take, vec_capacity}
-use Rattle.page_pool.specs.Flags.{with_flags, IsFreeList}
+use Rattle.page_pool.specs.Flags.{with_flags}
+use Rattle.page_pool.specs.Pool.{IsFreeList}
 use Rattle.page_pool.proofs.pool.give_pages.Given as goal
 
 abbrev pub invariant-loop-page : goal.invariant-loop-page

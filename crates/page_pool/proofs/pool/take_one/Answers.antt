@@ -1,5 +1,5 @@
 use Rattle.std.proofs.Common.{◌≡◌, ℕ, List, [], ◌∷◌, ◌++◌, ap, subst, ◌∙◌, option_to_list, Option}
-use Rattle.page_pool.specs.Flags.{IsFreeList}
+use Rattle.page_pool.specs.Pool.{IsFreeList}
 use Rattle.page_pool.proofs.FlagLemmas.{list_take}
 use Rattle.page_pool.proofs.pool.take_one.Goals as goal
 

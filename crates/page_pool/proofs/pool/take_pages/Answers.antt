@@ -2,8 +2,8 @@ use Rattle.std.proofs.Common.{◌≢◌, ℕ, Bool, true, List, All, sym, ap, su
 use Rattle.std.proofs.lemmas.List.{length_push}
 use Rattle.std.proofs.lemmas.List.Elements.{All-push}
 use Rattle.std.proofs.lemmas.List.Quantifiers.{all_pairs_push}
-use Rattle.page_pool.specs.Flags.{IsFree, IsTaken, AreDistinct, with_flags}
-use Rattle.page_pool.proofs.FlagLemmas.{still_free, with_flags-push, are_taken}
+use Rattle.page_pool.specs.Flags.{IsFree, IsTaken, free_count, AreDistinct, with_flags}
+use Rattle.page_pool.proofs.FlagLemmas.{still_free, with_flags-push, are_taken, take_counted}
 use Rattle.page_pool.proofs.pool.take_pages.Goals as goal
 
 pub loop-i-preserved : goal.loop-i-preserved
@@ -29,3 +29,8 @@ pub returns-clause-are_taken : goal.returns-clause-are_taken
 returns-clause-are_taken c =
     let inv = c.loop-i.invariant in
     subst (λ (l : List Bool). All (IsTaken l) c.loop-i.out.items) (sym {A = List Bool} inv.taken) (are_taken c.loop-i.out.items c.args.taken.now inv.were_free)
+
+pub returns-clause-left : goal.returns-clause-left
+returns-clause-left c =
+    let inv = c.loop-i.invariant in
+    omega (arith, ap free_count inv.taken, take_counted c.loop-i.out.items c.args.taken.now inv.were_free inv.apart, inv.given)
