@@ -1,14 +1,15 @@
 -- A super page and the bytes that it has.
-use Rattle.std.proofs.Common.{◌≡◌, ℕ, zero, suc, ◌+◌, ◌-◌, ◌<◌, ◌≤◌, List, ◌++◌, length, get_or, take, drop, replicate, codes, sym, refl, ◌∙◌, ap, inl, inr, arith, w32, length-append, length-drop, take-take, take_at, drop_at, take-add, get_or-drop, get_or-take}
+use Rattle.std.proofs.Common.{◌≡◌, ℕ, zero, suc, ◌+◌, ◌-◌, ◌<◌, ◌≤◌, List, ◌++◌, length, get_or, take, drop, replicate, codes, Ok, sym, refl, ◌∙◌, ap, inl, inr, arith, w32, length-append, length-drop, take-take, take_at, drop_at, take-add, get_or-drop, get_or-take}
 use Rattle.std.specs.Int.{to_le_bytes, from_le_bytes}
 use Rattle.std.proofs.lemmas.List.{drop-take, length-take-le, length-replicate, get_or_past, get_or-append_right}
 use Rattle.std.proofs.lemmas.Nat.{le_bytes_4, from_le_bytes-to_le_bytes_4}
 use Rattle.std.proofs.lemmas.Bool.{cases_lt}
 use Rattle.sha2.specs.Sha256.{sha256}
+use Rattle.pkg_names.specs.Numbers.{number_at}
 use Rattle.sha2.proofs.Facts256.{length-sha256}
 use Rattle.image_layout.specs.declared.geometry.Geometry.{Geometry}
 use Rattle.image_layout.specs.Geometry.{IsWithinLimits}
-use Rattle.image_layout.specs.Super.{super_text, IsSuper, number_at, geometry_at, zero_page, IsMarked}
+use Rattle.image_layout.specs.Super.{super_text, IsSuper, geometry_at, zero_page, IsMarked, HasRoom, Judges}
 
 -- a part of a list ends a longer front
 part_ends : (page : List ℕ) (at size : ℕ) → take (at + size) page ≡ take at page ++ take size (drop at page)
@@ -30,7 +31,7 @@ joined : (x y a b : List ℕ) → x ≡ a → y ≡ b → x ++ y ≡ a ++ b
 joined x y a b e f = ap (λ (l : List ℕ). l ++ y) e ∙ ap (λ (l : List ℕ). a ++ l) f
 
 -- A page that is marked and of layout 1 is spelled as the numbers that it has.
-pub spelled : (page : List ℕ) → length page ≡ 4096 → ((i : ℕ) → get_or page i 0 < 256) → IsMarked page → number_at page 8 ≡ 1 → (g : Geometry) → g ≡ geometry_at page → IsSuper page g
+pub spelled : (page : List ℕ) → length page ≡ 4096 → ((i : ℕ) → get_or page i 0 < 256) → IsMarked page → number_at w32 page 8 ≡ 1 → (g : Geometry) → g ≡ geometry_at page → IsSuper page g
 spelled page size fits marked layout g is =
     let part = four page size fits in
     let b : take 4 (drop 8 page) ≡ to_le_bytes w32 1 = part 8 1 (omega arith) (sym layout) in
@@ -55,7 +56,7 @@ same g x y z e f h =
     ∙ ap (λ (n : ℕ). record { blobs = x; data_pages = y; slot_pages = n }) h
 
 -- What is spelled so has these numbers, and is marked.
-pub numbers : (page : List ℕ) (g : Geometry) → IsSuper page g → IsWithinLimits g → IsMarked page × (number_at page 8 ≡ 1) × (g ≡ geometry_at page)
+pub numbers : (page : List ℕ) (g : Geometry) → IsSuper page g → IsWithinLimits g → IsMarked page × (number_at w32 page 8 ≡ 1) × (g ≡ geometry_at page)
 numbers page g is limits =
     let m : List ℕ = codes "FPKGIMG1" in
     let a : List ℕ = to_le_bytes w32 1 in
@@ -67,13 +68,19 @@ numbers page g is limits =
     let p16 = parts page (m ++ a ++ b) c 16 4 p20.0 refl in
     let p12 = parts page (m ++ a) b 12 4 p16.0 refl in
     let p8 = parts page m a 8 4 p12.0 refl in
-    let blobs : number_at page 12 ≡ g.blobs = ap (from_le_bytes w32) p12.1 ∙ from_le_bytes-to_le_bytes_4 g.blobs (omega (arith, limits.blobs_most)) in
-    let data_pages : number_at page 16 ≡ g.data_pages = ap (from_le_bytes w32) p16.1 ∙ from_le_bytes-to_le_bytes_4 g.data_pages (omega (arith, limits.data_most)) in
-    let slot_pages : number_at page 20 ≡ g.slot_pages = ap (from_le_bytes w32) p20.1 ∙ from_le_bytes-to_le_bytes_4 g.slot_pages (omega (arith, limits.slot_most)) in (
+    let blobs : number_at w32 page 12 ≡ g.blobs = ap (from_le_bytes w32) p12.1 ∙ from_le_bytes-to_le_bytes_4 g.blobs (omega (arith, limits.blobs_most)) in
+    let data_pages : number_at w32 page 16 ≡ g.data_pages = ap (from_le_bytes w32) p16.1 ∙ from_le_bytes-to_le_bytes_4 g.data_pages (omega (arith, limits.data_most)) in
+    let slot_pages : number_at w32 page 20 ≡ g.slot_pages = ap (from_le_bytes w32) p20.1 ∙ from_le_bytes-to_le_bytes_4 g.slot_pages (omega (arith, limits.slot_most)) in (
       record { magic = p8.0; digest = whole.1 ∙ ap sha256 (sym whole.0) },
       ap (from_le_bytes w32) p8.1 ∙ from_le_bytes-to_le_bytes_4 1 (omega arith),
-      same g (number_at page 12) (number_at page 16) (number_at page 20) (sym blobs) (sym data_pages) (sym slot_pages),
+      same g (number_at w32 page 12) (number_at w32 page 16) (number_at w32 page 20) (sym blobs) (sym data_pages) (sym slot_pages),
     )
+
+-- and is judged well where there is room
+pub well : (page : List ℕ) (g : Geometry) → IsSuper page g → (pages : ℕ) → HasRoom g pages → Judges page pages (Ok g)
+well page g is pages room =
+    let has = numbers page g is room.limits in
+    (has.0, has.1, has.2, room)
 
 -- a page of zeros
 pub length-zero_page : length zero_page ≡ 4096

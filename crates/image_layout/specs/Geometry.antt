@@ -3,6 +3,7 @@ use Rattle.std.specs.Prelude.{ℕ, ◌≡◌, ◌+◌, ◌*◌, ◌/◌, ◌%◌
 use Rattle.abr_record.specs.declared.Slot.{Slot}
 use Rattle.abr_record.specs.declared.Slot.TheVariants.{A, B, R}
 use Rattle.image_layout.specs.declared.geometry.Geometry.{Geometry}
+use Rattle.image_layout.specs.declared.geometry.TheConstants.{SUPER_PAGE, RECORD_PAGE, SELECTOR_PAGE, VBMETA_PAGES}
 
 -- each number is within its limits
 pub record IsWithinLimits (g : Geometry) : Type 0 where
@@ -20,7 +21,7 @@ abbrev pub table_pages : Geometry → ℕ
 table_pages g = g.blobs / 64 + g.data_pages / 1024
 
 abbrev pub slot_size : Geometry → ℕ
-slot_size g = 1 + g.slot_pages + 16
+slot_size g = 1 + g.slot_pages + VBMETA_PAGES
 
 -- where the regions behind the first three pages begin
 abbrev pub table_start : Geometry → Bool → ℕ
@@ -60,4 +61,8 @@ data_region g = record { first = data_start g; size = g.data_pages }
 
 -- super page, record page, selector page, the two copies of the table, the three slots, the data
 abbrev pub regions : Geometry → List Region
-regions g = page_region 0 ∷ page_region 1 ∷ page_region 2 ∷ table_region g false ∷ table_region g true ∷ slot_region g A ∷ slot_region g B ∷ slot_region g R ∷ data_region g ∷ []
+regions g =
+    page_region SUPER_PAGE ∷ page_region RECORD_PAGE ∷ page_region SELECTOR_PAGE
+    ∷ table_region g false ∷ table_region g true
+    ∷ slot_region g A ∷ slot_region g B ∷ slot_region g R
+    ∷ data_region g ∷ []

@@ -94,6 +94,7 @@ pub fn data_start(geometry: &Geometry) -> u32
 pub fn total_pages(geometry: &Geometry) -> u32
     requires { IsWithinLimits geometry.now }
     ensures total { result ≡ total_pages geometry.now }
+    ensures least { 1085 ≤ result }
     ensures most { result ≤ 90550 }
 {
     data_start(geometry) + geometry.data_pages

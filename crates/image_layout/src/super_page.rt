@@ -5,9 +5,10 @@ ghost use Rattle.std.specs.Int.{w32, to_le_bytes, from_le_bytes};
 ghost use Rattle.sha2.specs.Sha256.{sha256};
 ghost use Rattle.image_layout.specs.declared.geometry.Geometry.{Geometry};
 ghost use Rattle.image_layout.specs.Geometry.{IsWithinLimits, total_pages};
-ghost use Rattle.image_layout.specs.Super.{super_text, IsSuper, IsMarked, HasRoom, number_at, geometry_at, zero_page, Judges};
+ghost use Rattle.image_layout.specs.Super.{super_text, IsSuper, IsMarked, HasRoom, geometry_at, zero_page, Judges};
 
 use crate::geometry::{Geometry, total_pages};
+use pkg_names::numbers::u32_at;
 use sha2::{Digest, Sha256};
 
 /// Why a super page was not read.
@@ -21,15 +22,7 @@ pub enum SuperFault {
     Size,
 }
 
-const MAGIC: [u8; 8] = [70, 80, 75, 71, 73, 77, 71, 49];
-
-// The number at a place.
-fn number_at(page: &[u8; 4096], at: usize) -> u32
-    requires { at + 4 ≤ 4096 }
-    ensures { result ≡ number_at page.now at }
-{
-    u32::from_le_bytes([page[at], page[at + 1], page[at + 2], page[at + 3]])
-}
+const MAGIC: [u8; 8] = *b"FPKGIMG1";
 
 fn is_marked(page: &[u8; 4096]) -> bool
     ensures { IsTrue result ↔ IsMarked page.now }
@@ -54,14 +47,14 @@ pub fn read_super(page: &[u8; 4096], pages: u32) -> Result<Geometry, SuperFault>
     if !is_marked(page) {
         return Err(SuperFault::NotAnImage);
     }
-    let layout = number_at(page, 8);
+    let layout = u32_at(page, 8);
     if layout != 1 {
         return Err(SuperFault::Layout { found: layout });
     }
     let geometry = Geometry {
-        blobs: number_at(page, 12),
-        data_pages: number_at(page, 16),
-        slot_pages: number_at(page, 20),
+        blobs: u32_at(page, 12),
+        data_pages: u32_at(page, 16),
+        slot_pages: u32_at(page, 20),
     };
     if !has_room(&geometry, pages) {
         return Err(SuperFault::Size);
@@ -97,6 +90,8 @@ fn head(geometry: &Geometry) -> [u8; 56]
 pub fn write_super(geometry: &Geometry, out: &mut [u8; 4096])
     requires { IsWithinLimits geometry.now }
     ensures spelled { IsSuper out.new geometry.now }
+    ensures judged { (pages : ℕ) → HasRoom geometry.now pages
+        → Judges out.new pages (Ok geometry.now) }
     ensures rest { (i : ℕ) → 56 ≤ i → slice_index out.new i ≡ 0 }
 {
     *out = zeros();

@@ -1,6 +1,7 @@
 use Rattle.std.proofs.Common.{sym, ◌∙◌}
 use Rattle.image_layout.specs.declared.geometry.Geometry.{Geometry}
-use Rattle.image_layout.specs.Super.{number_at}
+use Rattle.std.specs.Int.{w32}
+use Rattle.pkg_names.specs.Numbers.{number_at}
 use Rattle.image_layout.proofs.SuperLemmas.{spelled, numbers, same}
 use Rattle.image_layout.proofs.super_page.read_super.Goals as goal
 
@@ -13,6 +14,6 @@ returns-then-not-is_marked-clause-only c = λ g is room.
 pub returns-clause-found : goal.returns-clause-found
 returns-clause-found c =
     let page = c.args.page.now in
-    let g : Geometry = record { blobs = c.number_at.result; data_pages = c.number_at-2.result; slot_pages = c.number_at-3.result } in
-    spelled page c.told-page c.fits-page (c.is_marked.ensures.0 c.if-not-is_marked.false) (sym c.number_at-layout.ensures ∙ c.if-layout-ne1.false) g
-    (same g (number_at page 12) (number_at page 16) (number_at page 20) c.number_at.ensures c.number_at-2.ensures c.number_at-3.ensures)
+    let g : Geometry = record { blobs = c.u32_at.result; data_pages = c.u32_at-2.result; slot_pages = c.u32_at-3.result } in
+    spelled page c.told-page c.fits-page (c.is_marked.ensures.0 c.if-not-is_marked.false) (sym c.u32_at-layout.ensures ∙ c.if-layout-ne1.false) g
+    (same g (number_at w32 page 12) (number_at w32 page 16) (number_at w32 page 20) c.u32_at.ensures c.u32_at-2.ensures c.u32_at-3.ensures)
