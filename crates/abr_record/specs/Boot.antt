@@ -13,7 +13,8 @@ is_bootable slot = nat_lt 0 slot.priority && (slot.successful || nat_lt 0 slot.t
 abbrev pub is_a_first : Record → Bool
 is_a_first r = is_bootable r.a && (not (is_bootable r.b) || nat_le r.b.priority r.a.priority)
 
--- the slot that boots: R where one is asked for once or neither can be booted, else the one of higher priority, A on a tie
+-- the slot that boots: R where recovery is asked for once or neither can be booted, else the one of higher
+-- priority, A on a tie
 abbrev pub boot_slot : Record → Slot
 boot_slot r = if not (r.one_shot == 0) then R else if is_a_first r then A else if is_bootable r.b then B else R
 
