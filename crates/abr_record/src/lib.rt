@@ -3,6 +3,10 @@
 //! `docs/formats.md` of the repository has its rules.
 #![tactic(auto)]
 
+mod laws;
+
+pub use laws::which_slot_boots;
+
 /// A slot that can boot. `R` is recovery.
 #[derive(Clone, Copy, Debug, PartialEq, Eq)]
 pub enum Slot {
