@@ -4,7 +4,7 @@ use Rattle.std.specs.List.{AllByRecursion}
 use Rattle.std.proofs.lemmas.Bool.{cases_eq}
 use Rattle.std.proofs.lemmas.List.{get_or_push, get_or_append_left, length_push}
 use Rattle.disk_model.specs.Past.{Page, Pages, Past, IsPage, state_of, MayRead}
-use Rattle.disk_model.specs.Kept.{ReadsPages}
+use Rattle.disk_model.specs.Disks.{ReadsPages}
 
 pub pages_push : (pages : Pages) (bytes : Page) → AllByRecursion IsPage pages → IsPage bytes → AllByRecursion IsPage (pages ++ bytes ∷ [])
 pages_push [] bytes all is = (is, tt)

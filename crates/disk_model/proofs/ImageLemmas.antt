@@ -6,8 +6,8 @@ use Rattle.std.specs.List.{AllByRecursion}
 use Rattle.std.proofs.lemmas.List.Elements.{All-from_recursion, recursion_from_All, All-from_get_or}
 use Rattle.disk_model.specs.declared.act.Act.{Act}
 use Rattle.disk_model.specs.declared.act.Act.TheVariants.{Wrote, Failed, Synced}
-use Rattle.disk_model.specs.Past.{Page, Pages, page_at, PageState, Past, IsPage, HasPage, IsPast, then_act, after_act, after_acts, state_of, IsPossible}
-use Rattle.disk_model.specs.Images.{IsImage, contents_after, contents}
+use Rattle.disk_model.specs.Past.{Page, Pages, page_at, PageState, Past, IsPage, HasPage, IsPast, then_act, after_synced, after_act, after_acts, state_of, IsPossible, IsLatest}
+use Rattle.disk_model.specs.Images.{IsImage, IsLatestImage, contents_after, contents}
 use Rattle.disk_model.proofs.StateLemmas.{state_of-then_act, possible_wrote, possible_failed, came_synced, other_wrote, other_failed, same_wrote, same_failed, nothing}
 
 -- a page of an image takes any other value that is possible there
@@ -60,6 +60,28 @@ pub image_synced : (past : Past) (image : Pages) → IsImage (then_act past Sync
 image_synced past image is = record {
   size = is.size;
   each = λ n lt. came_synced (state_of past n) (page_at image n) (subst (λ s. IsPossible s (page_at image n)) (state_of-then_act past Synced n) (is.each n lt));
+}
+
+-- and leaves those whose pages have each a value that it doesn't end
+pub latest_synced : (s : PageState) (v : Page) → IsPossible (after_synced s) v → IsLatest s v
+latest_synced s v (inl e) = inl e
+latest_synced s v (inr (inl c)) = inr c
+latest_synced s v (inr (inr c)) = absurd (nothing c)
+
+pub synced_latest : (s : PageState) (v : Page) → IsLatest s v → IsPossible (after_synced s) v
+synced_latest s v (inl e) = inl e
+synced_latest s v (inr c) = inr (inl c)
+
+pub image-latest : (past : Past) (image : Pages) → IsImage (then_act past Synced) image → IsLatestImage past image
+image-latest past image is = record {
+  size = is.size;
+  each = λ n lt. latest_synced (state_of past n) (page_at image n) (subst (λ s. IsPossible s (page_at image n)) (state_of-then_act past Synced n) (is.each n lt));
+}
+
+pub latest-image : (past : Past) (image : Pages) → IsLatestImage past image → IsImage (then_act past Synced) image
+latest-image past image is = record {
+  size = is.size;
+  each = λ n lt. subst (λ s. IsPossible s (page_at image n)) (sym (state_of-then_act past Synced n)) (synced_latest (state_of past n) (page_at image n) (is.each n lt));
 }
 
 -- The pages decide apart from each other: any choice of possible values is an image.

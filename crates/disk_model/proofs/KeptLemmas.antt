@@ -6,7 +6,7 @@ use Rattle.disk_model.specs.declared.act.Act.{Act}
 use Rattle.disk_model.specs.declared.act.Act.TheVariants.{Wrote, Failed, Synced}
 use Rattle.disk_model.specs.Past.{Page, Pages, page_at, zero_page, zero_pages, Past, IsPage, IsActIn, HasPage, IsPast, then_act, state_of, MayRead}
 use Rattle.disk_model.specs.Images.{contents_after, contents}
-use Rattle.disk_model.specs.Kept.{IsKept}
+use Rattle.disk_model.specs.Disks.{IsKept}
 use Rattle.disk_model.proofs.Regions.{all_push}
 use Rattle.disk_model.proofs.ImageLemmas.{now-contents, length-contents_after}
 

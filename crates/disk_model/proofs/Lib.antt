@@ -1,10 +1,13 @@
 pub mod StateLemmas
 pub mod ImageLemmas
+pub mod PageStates
 pub mod Moments
 pub mod Regions
 pub mod ReadPages
+pub mod ManyPages
+pub mod RowLemmas
 pub mod KeptLemmas
-pub mod CommitSteps
+pub mod FuseLemmas
 pub mod ReplayLemmas
 pub mod PickLemmas
 pub mod CopyLemmas

@@ -1,14 +1,14 @@
 -- What a call makes of each image, and of each moment since an earlier one. A caller's proof takes a
 -- line or two of these for each call of the disk.
-use Rattle.std.proofs.Common.{◌≡◌, ◌≢◌, ◌⊎◌, ℕ, ◌+◌, ◌<◌, ◌≤◌, List, [], ◌∷◌, ◌++◌, length, take, set, sym, refl, ◌∙◌, ap, subst, inl, inr, arith, Option, Some, None, IfSome, append_assoc, append-nil, length-append, take_all}
+use Rattle.std.proofs.Common.{◌≡◌, ◌≢◌, ◌⊎◌, ℕ, ◌+◌, ◌<◌, ◌≤◌, List, [], ◌∷◌, ◌++◌, length, take, set, sym, refl, ◌∙◌, ap, subst, inl, inr, arith, Option, Some, None, IfSome, append_assoc, append-nil, length-append, take_all, get_or-set_same, get_or-set_other}
 use Rattle.std.proofs.lemmas.Bool.{cases_lt}
 use Rattle.std.proofs.lemmas.List.{take-append-le}
 use Rattle.disk_model.specs.declared.act.Act.{Act}
 use Rattle.disk_model.specs.declared.act.Act.TheVariants.{Wrote, Failed, Synced}
 use Rattle.disk_model.specs.Past.{Page, Pages, page_at, PageState, Past, IsPast, IsActIn, then_act, with_act, state_of, MayRead}
-use Rattle.disk_model.specs.Images.{IsImage, EachImage, IsSettled, IsWritten, moment, GoesOn, Both, Keeps, AtEach}
+use Rattle.disk_model.specs.Images.{IsImage, EachImage, SomeImage, IsSettled, IsWritten, moment, GoesOn, Both, Keeps, AtEach}
 use Rattle.disk_model.proofs.StateLemmas.{state_of-then_act, other_wrote, other_failed, same_wrote}
-use Rattle.disk_model.proofs.ImageLemmas.{image_wrote, image_failed, image_synced, image_of, synced_page}
+use Rattle.disk_model.proofs.ImageLemmas.{image_wrote, image_failed, image_synced, image_of, synced_page, fresh_image}
 
 -- What a call of `write` may have done, and one of `sync`: `inl` of its clause at `Ok`, `inr` of that at `Err`.
 abbrev pub Tried : ℕ → Page → Option Past → Option Past → Type 0
@@ -17,13 +17,9 @@ Tried page bytes old new = (new ≡ with_act old (Wrote page bytes)) ⊎ ((new �
 abbrev pub Ended : Option Past → Option Past → Type 0
 Ended old new = (new ≡ with_act old Synced) ⊎ (new ≡ old)
 
--- the past with one act more, or the same
+-- The past with one act more, or the same.
 abbrev pub Stepped : (Act → Type 0) → Option Past → Option Past → Type 0
 Stepped A old new = (new ≡ old) ⊎ ((act : Act) × A act × (new ≡ with_act old act))
-
--- An act of a region.
-abbrev Within : (ℕ → Type 0) → Act → Type 0
-Within region act = IsActIn region act
 
 tried_step : (region : ℕ → Type 0) (page : ℕ) (bytes : Page) (old new : Option Past) → region page → Tried page bytes old new → Stepped (IsActIn region) old new
 tried_step region page bytes old new in_region (inl e) = inr (Wrote page bytes, in_region, e)
@@ -110,6 +106,25 @@ settled_some n value count (Some past) lt fits h = λ image is. synced_page past
 pub settled : (n : ℕ) (value : Page) (count : ℕ) (old new : Option Past) → n < count → IfSome old (IsPast count) → IsWritten old n value → new ≡ with_act old Synced → IsSettled new n value
 settled n value count old new lt fits h e = subst (λ told. IsSettled told n value) (sym e) (settled_some n value count old lt fits h)
 
+-- A disk without acts has each page settled on what it began with.
+pub settled_start : (start : Pages) (n : ℕ) → IsSettled (Some (record { start = start; trail = [] })) n (page_at start n)
+settled_start start n = λ image is. ap (λ (l : Pages). page_at l n) (fresh_image start image is)
+
+-- A settled page stays so over a write of another page, and over a sync.
+pub settled_write : (n : ℕ) (value : Page) (page : ℕ) (bytes : Page) (old new : Option Past) → page ≢ n → Tried page bytes old new → IsSettled old n value → IsSettled new n value
+settled_write n value page bytes old new ne tried h =
+    each_write (λ image. page_at image n ≡ value) (λ image. page_at image n ≡ value) page bytes old new tried h (λ image e. e)
+    (λ image lt e. get_or-set_other image page n bytes [] (λ same. ne (sym same)) ∙ e)
+
+pub settled_sync : (n : ℕ) (value : Page) (old new : Option Past) → Ended old new → IsSettled old n value → IsSettled new n value
+settled_sync n value old new ended h = each_sync (λ image. page_at image n ≡ value) old new ended h
+
+-- Once it is written anew, each image has the one value there or the other.
+pub either_write : (n : ℕ) (value bytes : Page) (old new : Option Past) → Tried n bytes old new → IsSettled old n value → EachImage new (λ image. (page_at image n ≡ value) ⊎ (page_at image n ≡ bytes))
+either_write n value bytes old new tried h =
+    each_write (λ image. page_at image n ≡ value) (λ image. (page_at image n ≡ value) ⊎ (page_at image n ≡ bytes)) n bytes old new tried h (λ image e. inl e)
+    (λ image lt e. inr (get_or-set_same image n bytes [] lt))
+
 -- Reads
 
 -- A read gives what was written last.
@@ -117,12 +132,19 @@ pub read_written : (n : ℕ) (value out : Page) (told : Option Past) → IsWritt
 read_written n value out None h may = tt
 read_written n value out (Some past) h may = may.written h.1 ∙ h.0
 
+-- A read of a settled page gives its value.
+pub read_settled : (n : ℕ) (value out : Page) (count : ℕ) (told : Option Past) → n < count → IfSome told (IsPast count) → IsSettled told n value → IfSome told (λ past. MayRead (state_of past n) out) → IfSome told (λ past. out ≡ value)
+read_settled n value out count None lt fits h may = tt
+read_settled n value out count (Some past) lt fits h may =
+    let found = image_of past n out (omega (arith, fits.size)) may.possible in
+    sym found.2 ∙ h found.0 found.1
+
 -- A read gives what stands at the page in some image.
-pub read_image : (P : Pages → Type 0) (n : ℕ) (out : Page) (count : ℕ) (told : Option Past) → n < count → IfSome told (IsPast count) → EachImage told P → IfSome told (λ past. MayRead (state_of past n) out) → IfSome told (λ past. (image : Pages) × IsImage past image × P image × (page_at image n ≡ out))
+pub read_image : (P : Pages → Type 0) (n : ℕ) (out : Page) (count : ℕ) (told : Option Past) → n < count → IfSome told (IsPast count) → EachImage told P → IfSome told (λ past. MayRead (state_of past n) out) → SomeImage told (λ image. P image × (page_at image n ≡ out))
 read_image P n out count None lt fits h may = tt
 read_image P n out count (Some past) lt fits h may =
     let found = image_of past n out (omega (arith, fits.size)) may.possible in
-    (found.0, found.1, h found.0 found.1, found.2)
+    (found.0, found.1, (h found.0 found.1, found.2))
 
 -- Moments
 
@@ -160,14 +182,11 @@ step P A start old new at (inl e) h = subst (λ told. AtEach start told P) (sym 
 step P A start old new at (inr s) h =
     subst (λ told. AtEach start told P) (sym s.2) (act_more P start old s.0 at (subst (λ told. EachImage told P) s.2 h))
 
--- P goes on holding at each moment over a write, and over a sync, after which each image has it.
+-- P goes on holding at each moment over a write after which each image has it,
 pub at_write : (P : Pages → Type 0) (page : ℕ) (bytes : Page) (start old new : Option Past) → AtEach start old P → Tried page bytes old new → EachImage new P → AtEach start new P
 at_write P page bytes start old new at tried h = step P (IsActIn (λ _. Unit {0})) start old new at (tried_step (λ _. Unit {0}) page bytes old new tt tried) h
 
-pub at_sync : (P : Pages → Type 0) (start old new : Option Past) → AtEach start old P → Ended old new → EachImage new P → AtEach start new P
-at_sync P start old new at ended h = step P (IsActIn (λ _. Unit {0})) start old new at (ended_step (λ _. Unit {0}) old new ended) h
-
--- the last moment
+-- The last moment.
 pub at_end : (P : Pages → Type 0) (start new : Option Past) → AtEach start new P → EachImage new P
 at_end P start None at = tt
 at_end P None (Some new) at = absurd at
@@ -175,11 +194,31 @@ at_end P (Some start) (Some new) at = λ image is.
     let more = at.goes_on.trail in
     at.each (length new.trail) (omega (arith, ap length more.1, length-append start.trail more.0)) (omega arith) image (subst (λ trail. IsImage (record new { trail = trail }) image) (sym (take_all (length new.trail) new.trail (omega arith))) is)
 
+pub at_sync : (P : Pages → Type 0) (start old new : Option Past) → AtEach start old P → Ended old new → AtEach start new P
+at_sync P start old new at ended = step P (IsActIn (λ _. Unit {0})) start old new at (ended_step (λ _. Unit {0}) old new ended) (each_sync P old new ended (at_end P start old at))
+
+-- and over a call that leaves the past, as a read does, and one that fails and adds no act
+pub at_same : (P : Pages → Type 0) (start old new : Option Past) → AtEach start old P → new ≡ old → AtEach start new P
+at_same P start old new at e = subst (λ told. AtEach start told P) (sym e) at
+
 pub at_weaker : (P Q : Pages → Type 0) (start new : Option Past) → ((image : Pages) → P image → Q image) → AtEach start new P → AtEach start new Q
 at_weaker P Q None None f at = tt
 at_weaker P Q None (Some new) f at = at
 at_weaker P Q (Some start) None f at = at
 at_weaker P Q (Some start) (Some new) f at = record { goes_on = at.goes_on; each = λ count low high image is. f image (at.each count low high image is) }
+
+-- At each moment both, and what holds for each number below k.
+pub at_both : (P Q : Pages → Type 0) (start new : Option Past) → AtEach start new P → AtEach start new Q → AtEach start new (λ image. P image × Q image)
+at_both P Q None None at more = tt
+at_both P Q None (Some new) at more = at
+at_both P Q (Some start) None at more = at
+at_both P Q (Some start) (Some new) at more = record { goes_on = at.goes_on; each = λ count low high image is. (at.each count low high image is, more.each count low high image is) }
+
+pub at_all : (P : ℕ → Pages → Type 0) (k : ℕ) (start new : Option Past) → Both GoesOn start new → ((i : ℕ) → i < k → AtEach start new (P i)) → AtEach start new (λ image. (i : ℕ) → i < k → P i image)
+at_all P k None None on at = tt
+at_all P k None (Some new) on at = on
+at_all P k (Some start) None on at = on
+at_all P k (Some start) (Some new) on at = record { goes_on = on; each = λ count low high image is i lt. (at i lt).each count low high image is }
 
 -- One run after another.
 pub at_then : (P : Pages → Type 0) (start mid new : Option Past) → AtEach start mid P → AtEach mid new P → AtEach start new P
@@ -223,3 +262,10 @@ at_moment P start mid new keeps on count low high image is =
     let trails : take count new.trail ≡ take count mid.trail = ap (take count) on.trail.1 ∙ take-append-le count mid.trail on.trail.0 high in
     let same : moment new count ≡ moment mid count = ap (λ (s : Pages). record { start = s; trail = take count new.trail }) on.start ∙ ap (λ (t : List Act). record { start = mid.start; trail = t }) trails in
     keeps.each count low high image (subst (λ past. IsImage past image) same is)
+
+-- What holds at each moment of a run holds at those from any moment of it on.
+pub at_rest : (P : Pages → Type 0) (start mid new : Past) → Keeps P start new → GoesOn start mid → GoesOn mid new → Keeps P mid new
+at_rest P start mid new keeps on rest = record {
+  goes_on = rest;
+  each = λ count low high image is. keeps.each count (omega (arith, low, ap length on.trail.1, length-append start.trail on.trail.0)) high image is;
+}

@@ -9,10 +9,16 @@ use Rattle.disk_model.specs.declared.act.Act.{Act}
 use Rattle.disk_model.specs.declared.power_loss.Pick.{Pick}
 use Rattle.disk_model.specs.Past.{Page, Pages, page_at, PageState, Past, after_acts, state_of, IsPossible}
 use Rattle.disk_model.specs.Images.{IsImage, contents_after}
-use Rattle.disk_model.specs.Picks.{synced_len, synced_contents, value_on, pick_value, AreGood, Takes, Marks, Puts}
+use Rattle.disk_model.specs.Picks.{synced_len, synced_contents, value_on, pick_value, AreGood, Takes, Puts}
 use Rattle.disk_model.proofs.StateLemmas.{after_acts-append}
 use Rattle.disk_model.proofs.ImageLemmas.{now_after, length-contents_after}
 use Rattle.disk_model.proofs.ReplayLemmas.{no_sync_after, stays_possible, comes_possible, slice_get-drop}
+
+-- the pages of these picks are marked, and no other
+pub record Marks (picks : List Pick) (marks : List Bool) : Type 0 where
+  pub count : count_by (λ b. b) marks ≡ length picks
+  pub marked : (n : ℕ) → get_or marks n false ≡ true → (k : ℕ) × (k < length picks) × ((d : Pick) → (get_or picks k d).page ≡ n)
+  pub unmarked : (n : ℕ) → get_or marks n false ≡ false → All (λ pick. pick.page ≢ n) picks
 
 pub good_none : (trail : List Act) → AreGood trail []
 good_none trail = record { each = All-nil (λ pick. IsSome (pick_value trail pick)); apart = λ i j d lt le. absurd (omega (arith, le)) }

@@ -7,10 +7,10 @@ use Rattle.std.proofs.lemmas.List.{take_more}
 use Rattle.std.proofs.lemmas.List.Elements.{Contains-push}
 use Rattle.disk_model.specs.declared.act.Act.{Act}
 use Rattle.disk_model.specs.declared.act.Act.TheVariants.{Wrote, Failed, Synced}
-use Rattle.disk_model.specs.Past.{Page, Pages, page_at, PageState, Past, IsActIn, then_act, after_act, after_acts, state_of, IsPossible}
+use Rattle.disk_model.specs.Past.{Page, Pages, page_at, PageState, Past, IsActIn, then_act, after_wrote, after_failed, after_act, after_acts, state_of, IsPossible}
 use Rattle.disk_model.specs.Images.{IsImage}
 use Rattle.disk_model.specs.Picks.{is_sync, synced_len, value_on}
-use Rattle.disk_model.proofs.StateLemmas.{wrote, failed, stays_wrote, stays_failed, state_of-then_act}
+use Rattle.disk_model.proofs.StateLemmas.{stays_wrote, stays_failed, state_of-then_act}
 use Rattle.disk_model.proofs.ImageLemmas.{image_mix}
 
 -- with one act more at the end
@@ -52,13 +52,13 @@ no_sync_after (x ∷ acts) = rest_step x acts (synced_len acts) (no_sync_after a
 pub stays_act : (n : ℕ) (s : PageState) (x : Act) (v : Page) → is_sync x ≡ false → IsPossible s v → IsPossible (after_act n s x) v
 stays_act n s (Wrote page bytes) v none p =
     elim (eqb_tells page n) [
-      | inl t ↦ subst (λ (s : PageState). IsPossible s v) (sym (cond-true (eqb page n) (wrote s bytes) s t.0)) (stays_wrote s bytes v p)
-      | inr t ↦ subst (λ (s : PageState). IsPossible s v) (sym (cond-false (eqb page n) (wrote s bytes) s t.0)) p
+      | inl t ↦ subst (λ (s : PageState). IsPossible s v) (sym (cond-true (eqb page n) (after_wrote s bytes) s t.0)) (stays_wrote s bytes v p)
+      | inr t ↦ subst (λ (s : PageState). IsPossible s v) (sym (cond-false (eqb page n) (after_wrote s bytes) s t.0)) p
     ]
 stays_act n s (Failed page bytes) v none p =
     elim (eqb_tells page n) [
-      | inl t ↦ subst (λ (s : PageState). IsPossible s v) (sym (cond-true (eqb page n) (failed s bytes) s t.0)) (stays_failed s bytes v p)
-      | inr t ↦ subst (λ (s : PageState). IsPossible s v) (sym (cond-false (eqb page n) (failed s bytes) s t.0)) p
+      | inl t ↦ subst (λ (s : PageState). IsPossible s v) (sym (cond-true (eqb page n) (after_failed s bytes) s t.0)) (stays_failed s bytes v p)
+      | inr t ↦ subst (λ (s : PageState). IsPossible s v) (sym (cond-false (eqb page n) (after_failed s bytes) s t.0)) p
     ]
 stays_act n s Synced v none p = cc
 
@@ -76,12 +76,12 @@ none_some v e = cc
 pub comes_act : (n : ℕ) (s : PageState) (x : Act) (v : Page) → value_on n (Some x) ≡ Some v → IsPossible (after_act n s x) v
 comes_act n s (Wrote page bytes) v e =
     elim (eqb_tells page n) [
-      | inl t ↦ subst (λ (s : PageState). IsPossible s v) (sym (cond-true (eqb page n) (wrote s bytes) s t.0)) (inl (some_same v bytes (sym e ∙ cond-true (eqb page n) (Some bytes) None t.0)))
+      | inl t ↦ subst (λ (s : PageState). IsPossible s v) (sym (cond-true (eqb page n) (after_wrote s bytes) s t.0)) (inl (some_same v bytes (sym e ∙ cond-true (eqb page n) (Some bytes) None t.0)))
       | inr t ↦ absurd (none_some v (sym (cond-false (eqb page n) (Some bytes) None t.0) ∙ e))
     ]
 comes_act n s (Failed page bytes) v e =
     elim (eqb_tells page n) [
-      | inl t ↦ subst (λ (s : PageState). IsPossible s v) (sym (cond-true (eqb page n) (failed s bytes) s t.0)) (inr (inl (subst (Contains (s.failed ++ bytes ∷ [])) (some_same bytes v (sym (cond-true (eqb page n) (Some bytes) None t.0) ∙ e)) (Contains-push s.failed bytes))))
+      | inl t ↦ subst (λ (s : PageState). IsPossible s v) (sym (cond-true (eqb page n) (after_failed s bytes) s t.0)) (inr (inl (subst (Contains (s.failed ++ bytes ∷ [])) (some_same bytes v (sym (cond-true (eqb page n) (Some bytes) None t.0) ∙ e)) (Contains-push s.failed bytes))))
       | inr t ↦ absurd (none_some v (sym (cond-false (eqb page n) (Some bytes) None t.0) ∙ e))
     ]
 comes_act n s Synced v e = cc

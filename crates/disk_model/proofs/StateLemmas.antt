@@ -5,7 +5,7 @@ use Rattle.std.proofs.lemmas.Bool.{cond-true, cond-false}
 use Rattle.std.proofs.lemmas.Bool.Decides.{eqb_tells}
 use Rattle.disk_model.specs.declared.act.Act.{Act}
 use Rattle.disk_model.specs.declared.act.Act.TheVariants.{Wrote, Failed}
-use Rattle.disk_model.specs.Past.{Page, PageState, Past, then_act, after_act, after_acts, state_of, IsPossible}
+use Rattle.disk_model.specs.Past.{Page, PageState, Past, then_act, after_wrote, after_failed, after_act, after_acts, state_of, IsPossible}
 
 pub after_acts-append : (n : ℕ) (s : PageState) (xs ys : List Act) → after_acts n s (xs ++ ys) ≡ after_acts n (after_acts n s xs) ys
 after_acts-append n s [] ys = refl
@@ -14,29 +14,26 @@ after_acts-append n s (x ∷ xs) ys = after_acts-append n (after_act n s x) xs y
 pub state_of-then_act : (past : Past) (act : Act) (n : ℕ) → state_of (then_act past act) n ≡ after_act n (state_of past n) act
 state_of-then_act past act n = after_acts-append n _ past.trail (act ∷ [])
 
--- the state after a write that succeeded, and after one that failed
-abbrev pub wrote : PageState → Page → PageState
-wrote s bytes = record { older = s.older ++ (s.failed ++ s.now ∷ []); now = bytes; failed = [] }
-
-abbrev pub failed : PageState → Page → PageState
-failed s bytes = record s { failed = s.failed ++ bytes ∷ [] }
-
 pub nothing : {v : Page} → Contains {X = Page} [] v → ⊥
 nothing c = omega (arith, c.1)
 
 -- a value that was possible stays so until a sync
-pub stays_wrote : (s : PageState) (bytes v : Page) → IsPossible s v → IsPossible (wrote s bytes) v
+pub stays_wrote : (s : PageState) (bytes v : Page) → IsPossible s v → IsPossible (after_wrote s bytes) v
 stays_wrote s bytes v (inl e) = inr (inr (Contains-append_right s.older (s.failed ++ s.now ∷ []) v (subst (Contains (s.failed ++ s.now ∷ [])) (sym e) (Contains-push s.failed s.now))))
 stays_wrote s bytes v (inr (inl c)) = inr (inr (Contains-append_right s.older (s.failed ++ s.now ∷ []) v (Contains-append_left s.failed (s.now ∷ []) v c)))
 stays_wrote s bytes v (inr (inr c)) = inr (inr (Contains-append_left s.older (s.failed ++ s.now ∷ []) v c))
 
-pub stays_failed : (s : PageState) (bytes v : Page) → IsPossible s v → IsPossible (failed s bytes) v
+pub stays_failed : (s : PageState) (bytes v : Page) → IsPossible s v → IsPossible (after_failed s bytes) v
 stays_failed s bytes v (inl e) = inl e
 stays_failed s bytes v (inr (inl c)) = inr (inl (Contains-append_left s.failed (bytes ∷ []) v c))
 stays_failed s bytes v (inr (inr c)) = inr (inr c)
 
+-- what failed to be written is possible
+pub comes_failed : (s : PageState) (bytes v : Page) → v ≡ bytes → IsPossible (after_failed s bytes) v
+comes_failed s bytes v e = inr (inl (subst (Contains (s.failed ++ bytes ∷ [])) (sym e) (Contains-push s.failed bytes)))
+
 -- only the value of the write is new
-came_wrote : (s : PageState) (bytes v : Page) → IsPossible (wrote s bytes) v → IsPossible s v ⊎ (v ≡ bytes)
+came_wrote : (s : PageState) (bytes v : Page) → IsPossible (after_wrote s bytes) v → IsPossible s v ⊎ (v ≡ bytes)
 came_wrote s bytes v (inl e) = inr e
 came_wrote s bytes v (inr (inl c)) = absurd (nothing c)
 came_wrote s bytes v (inr (inr c)) =
@@ -45,7 +42,7 @@ came_wrote s bytes v (inr (inr c)) =
       | inr r ↦ elim (Contains-push_cases s.failed s.now v r) [ inl f ↦ inr (inl f) | inr e ↦ inl (sym e) ]
     ])
 
-came_failed : (s : PageState) (bytes v : Page) → IsPossible (failed s bytes) v → IsPossible s v ⊎ (v ≡ bytes)
+came_failed : (s : PageState) (bytes v : Page) → IsPossible (after_failed s bytes) v → IsPossible s v ⊎ (v ≡ bytes)
 came_failed s bytes v (inl e) = inl (inl e)
 came_failed s bytes v (inr (inl c)) =
     elim (Contains-push_cases s.failed bytes v c) [ inl f ↦ inl (inr (inl f)) | inr e ↦ inr (sym e) ]
@@ -63,11 +60,11 @@ chosen false s t v bytes came p = inl p
 -- after a write of a page, made or failed, a value is possible that was so before, or at that page the one written
 pub possible_wrote : (n page : ℕ) (s : PageState) (bytes v : Page) → IsPossible (after_act n s (Wrote page bytes)) v → IsPossible s v ⊎ ((page ≡ n) × (v ≡ bytes))
 possible_wrote n page s bytes v p =
-    elim (chosen (eqb page n) s (wrote s bytes) v bytes (came_wrote s bytes v) p) [ inl q ↦ inl q | inr e ↦ inr (eqb-true page n e.0, e.1) ]
+    elim (chosen (eqb page n) s (after_wrote s bytes) v bytes (came_wrote s bytes v) p) [ inl q ↦ inl q | inr e ↦ inr (eqb-true page n e.0, e.1) ]
 
 pub possible_failed : (n page : ℕ) (s : PageState) (bytes v : Page) → IsPossible (after_act n s (Failed page bytes)) v → IsPossible s v ⊎ ((page ≡ n) × (v ≡ bytes))
 possible_failed n page s bytes v p =
-    elim (chosen (eqb page n) s (failed s bytes) v bytes (came_failed s bytes v) p) [ inl q ↦ inl q | inr e ↦ inr (eqb-true page n e.0, e.1) ]
+    elim (chosen (eqb page n) s (after_failed s bytes) v bytes (came_failed s bytes v) p) [ inl q ↦ inl q | inr e ↦ inr (eqb-true page n e.0, e.1) ]
 
 -- a write of another page leaves a page as it was
 pub other_wrote : (n page : ℕ) (s : PageState) (bytes : Page) → page ≢ n → after_act n s (Wrote page bytes) ≡ s
@@ -76,8 +73,8 @@ other_wrote n page s bytes ne = elim (eqb_tells page n) [ inl t ↦ absurd (ne t
 pub other_failed : (n page : ℕ) (s : PageState) (bytes : Page) → page ≢ n → after_act n s (Failed page bytes) ≡ s
 other_failed n page s bytes ne = elim (eqb_tells page n) [ inl t ↦ absurd (ne t.1) | inr t ↦ cond-false _ _ _ t.0 ]
 
-pub same_wrote : (n : ℕ) (s : PageState) (bytes : Page) → after_act n s (Wrote n bytes) ≡ wrote s bytes
+pub same_wrote : (n : ℕ) (s : PageState) (bytes : Page) → after_act n s (Wrote n bytes) ≡ after_wrote s bytes
 same_wrote n s bytes = cond-true _ _ _ (eq-eqb n n refl)
 
-pub same_failed : (n : ℕ) (s : PageState) (bytes : Page) → after_act n s (Failed n bytes) ≡ failed s bytes
+pub same_failed : (n : ℕ) (s : PageState) (bytes : Page) → after_act n s (Failed n bytes) ≡ after_failed s bytes
 same_failed n s bytes = cond-true _ _ _ (eq-eqb n n refl)

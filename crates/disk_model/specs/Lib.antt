@@ -1,5 +1,4 @@
 pub mod Past
 pub mod Images
-pub mod Kept
-pub mod Commit
+pub mod Disks
 pub mod Picks

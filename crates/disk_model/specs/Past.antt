@@ -66,10 +66,21 @@ pub record PageState : Type 0 where
   pub now : Page
   pub failed : List Page
 
+-- the state after a write that succeeded, after one that failed, and after a sync
+abbrev pub after_wrote : PageState → Page → PageState
+after_wrote state bytes = record { older = state.older ++ (state.failed ++ state.now ∷ []); now = bytes; failed = [] }
+
+abbrev pub after_failed : PageState → Page → PageState
+after_failed state bytes = record state { failed = state.failed ++ bytes ∷ [] }
+
+abbrev pub after_synced : PageState → PageState
+after_synced state = record state { older = [] }
+
+-- what an act makes of the state of page n
 abbrev pub after_act : ℕ → PageState → Act → PageState
-after_act n state (Wrote page bytes) = if page == n then record { older = state.older ++ (state.failed ++ state.now ∷ []); now = bytes; failed = [] } else state
-after_act n state (Failed page bytes) = if page == n then record state { failed = state.failed ++ bytes ∷ [] } else state
-after_act n state Synced = record state { older = [] }
+after_act n state (Wrote page bytes) = if page == n then after_wrote state bytes else state
+after_act n state (Failed page bytes) = if page == n then after_failed state bytes else state
+after_act n state Synced = after_synced state
 
 abbrev pub after_acts : ℕ → PageState → List Act → PageState
 after_acts n state [] = state
@@ -81,6 +92,10 @@ state_of past n = after_acts n (record { older = []; now = page_at past.start n;
 -- a value that a power loss may leave at the page
 abbrev pub IsPossible : PageState → Page → Type 0
 IsPossible state value = (value ≡ state.now) ⊎ (Contains state.failed value ⊎ Contains state.older value)
+
+-- What was written last, or the value of a write that failed since: a value that no sync ends.
+abbrev pub IsLatest : PageState → Page → Type 0
+IsLatest state value = (value ≡ state.now) ⊎ Contains state.failed value
 
 -- A read gives what was written last. Where a write has failed since, it gives a possible value.
 pub record MayRead (state : PageState) (value : Page) : Type 0 where

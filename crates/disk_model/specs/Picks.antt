@@ -1,6 +1,6 @@
 -- Which crash image a restart is asked for.
 use Rattle.std.specs.Prelude.{ℕ, ◌≡◌, ◌≢◌, ◌+◌, ◌<◌, ◌==◌, ⊤, if◌then◌else◌, Bool, true, false, List, [], ◌∷◌, length, take, nat_lt, slice_get, slice_index_or, slice_set, Option, Some, None, IsSome}
-use Rattle.std.specs.List.{All, AllPairs, count_by}
+use Rattle.std.specs.List.{All, AllPairs}
 use Rattle.disk_model.specs.declared.act.Act.{Act}
 use Rattle.disk_model.specs.declared.act.Act.TheVariants.{Wrote, Failed, Synced}
 use Rattle.disk_model.specs.declared.power_loss.Pick.{Pick}
@@ -32,7 +32,8 @@ value_on page None = None
 
 -- the value of a pick: its act comes after the last sync and writes its page
 abbrev pub pick_value : List Act → Pick → Option Page
-pick_value trail pick = if nat_lt pick.act (synced_len trail) then None else value_on pick.page (slice_get trail pick.act)
+pick_value trail pick =
+    if nat_lt pick.act (synced_len trail) then None else value_on pick.page (slice_get trail pick.act)
 
 -- each pick has a value, and no page is picked twice
 pub record AreGood (trail : List Act) (picks : List Pick) : Type 0 where
@@ -55,14 +56,9 @@ pub record Takes (trail : List Act) (picks : List Pick) (old new : Pages) : Type
   pub picked : All (λ pick. pick_value trail pick ≡ Some (page_at new pick.page)) picks
   pub others : (n : ℕ) → All (λ pick. pick.page ≢ n) picks → page_at new n ≡ page_at old n
 
--- the pages of these picks are marked, and no other
-pub record Marks (picks : List Pick) (marks : List Bool) : Type 0 where
-  pub count : count_by (λ b. b) marks ≡ length picks
-  pub marked : (n : ℕ) → slice_index_or marks n false ≡ true → (k : ℕ) × (k < length picks) × ((d : Pick) → (slice_index_or picks k d).page ≡ n)
-  pub unmarked : (n : ℕ) → slice_index_or marks n false ≡ false → All (λ pick. pick.page ≢ n) picks
-
 -- the page of a pick, which had no mark, gets its value and a mark
-pub record Puts (trail : List Act) (pick : Pick) (old : Pages) (marks : List Bool) (new : Pages) (new_marks : List Bool) : Type 0 where
+pub record Puts (trail : List Act) (pick : Pick) (old : Pages) (marks : List Bool)
+    (new : Pages) (new_marks : List Bool) : Type 0 where
   pub inside : pick.page < length old
   pub free : slice_index_or marks pick.page false ≡ false
   pub value : (bytes : Page) × (pick_value trail pick ≡ Some bytes) × (new ≡ slice_set old pick.page bytes)

@@ -4,7 +4,7 @@ ghost use Rattle.std.specs.Prelude.{◌≡◌, ◌+◌, ◌-◌, ◌^◌, ◌<�
 ghost use Rattle.std.specs.List.{AllByRecursion};
 ghost use Rattle.disk_model.specs.Past.{Page, Past, IsPage, IsPast, page_at, state_of, MayRead, Rose, RoseBy};
 ghost use Rattle.disk_model.specs.Images.{IsImage};
-ghost use Rattle.disk_model.specs.Kept.{new_mem, ReadsPages};
+ghost use Rattle.disk_model.specs.Disks.{new_mem, ReadsPages};
 
 use crate::disk::Disk;
 use crate::mem::MemDisk;
@@ -49,8 +49,9 @@ fn read_next<D: Disk>(disk: &mut D, page: u32, pages: &mut Vec<[u8; 4096]>) -> R
         × IfSome (D.past disk.old) (λ past. MayRead (state_of past page) bytes)) }
     ensures past_stays { D.past disk.new ≡ D.past disk.old }
     ensures pages_stay { D.pages disk.new ≡ D.pages disk.old }
+    ensures tie_stays { D.tie disk.new ≡ D.tie disk.old }
     ensures counted { D.reads disk.new ≡ min (D.reads disk.old + 1) (2 ^ 64 - 1) }
-    ensures faults_stay { D.faults disk.old ≤ D.faults disk.new }
+    ensures faults_never_fall { D.faults disk.old ≤ D.faults disk.new }
     ensures cause { IsErrOf result CopyFault.Read → Rose (D.faults disk.old) (D.faults disk.new) }
 {
     let mut bytes = zero_page();
@@ -79,9 +80,10 @@ fn read_pages<D: Disk>(alloc: Global, disk: &mut D) -> Result<Vec<[u8; 4096]>, C
     ensures told { IfSome (D.past disk.old) (IsPast (D.pages disk.old)) }
     ensures past_stays { D.past disk.new ≡ D.past disk.old }
     ensures pages_stay { D.pages disk.new ≡ D.pages disk.old }
+    ensures tie_stays { D.tie disk.new ≡ D.tie disk.old }
     ensures counted { OnOk result (RoseBy (D.pages disk.old) (D.reads disk.old) (D.reads disk.new)) }
     ensures reads { D.reads disk.new ≤ D.reads disk.old + D.pages disk.old }
-    ensures faults_stay { D.faults disk.old ≤ D.faults disk.new }
+    ensures faults_never_fall { D.faults disk.old ≤ D.faults disk.new }
     ensures cause { IsErrOf result CopyFault.Read → Rose (D.faults disk.old) (D.faults disk.new) }
 {
     let count = disk.pages();
@@ -101,11 +103,13 @@ impl MemDisk {
             (λ past. ReadsPages past (D.pages disk.old) copy.past.start)) }
         ensures image { IfOk result (λ copy. IfSome (D.past disk.old)
             (λ past. IsImage past copy.past.start)) }
+        ensures told { OnOk result (IfSome (D.past disk.old) (IsPast (D.pages disk.old))) }
         ensures past_stays { D.past disk.new ≡ D.past disk.old }
         ensures pages_stay { D.pages disk.new ≡ D.pages disk.old }
+        ensures tie_stays { D.tie disk.new ≡ D.tie disk.old }
         ensures counted { OnOk result (RoseBy (D.pages disk.old) (D.reads disk.old) (D.reads disk.new)) }
         ensures reads { D.reads disk.new ≤ D.reads disk.old + D.pages disk.old }
-        ensures faults_stay { D.faults disk.old ≤ D.faults disk.new }
+        ensures faults_never_fall { D.faults disk.old ≤ D.faults disk.new }
         ensures cause { IsErrOf result CopyFault.Read
             → Rose (D.faults disk.old) (D.faults disk.new) }
     {

@@ -1,6 +1,6 @@
 //! A disk of pages.
 
-ghost use Rattle.std.specs.Prelude.{◌≡◌, ◌⊎◌, ℕ, ◌+◌, ◌-◌, ◌^◌, ◌<◌, ◌≤◌, min, Option, OnOk, OnErr, IfSome};
+ghost use Rattle.std.specs.Prelude.{◌≡◌, ◌⊎◌, ℕ, ◌+◌, ◌-◌, ◌^◌, ◌<◌, ◌≤◌, min, List, Option, OnOk, OnErr, IfSome};
 ghost use Rattle.disk_model.specs.declared.act.Act.TheVariants.{Wrote, Failed, Synced};
 ghost use Rattle.disk_model.specs.Past.{Past, IsPast, with_act, state_of, MayRead, Rose};
 
@@ -8,9 +8,9 @@ ghost use Rattle.disk_model.specs.Past.{Past, IsPast, with_act, state_of, MayRea
 #[derive(Clone, Copy, Debug, PartialEq, Eq)]
 pub struct DiskFailed;
 
-/// A disk of pages of 4096 bytes. At a power loss each page holds, apart from the others, the value
-/// that it had at the last sync that succeeded, or one that was written to it since, also by a write
-/// that failed. `docs/disk.md` has the model.
+/// A disk of pages of 4096 bytes. At a power loss each page holds, apart from the others, what was
+/// written to it last, or the value of a write that failed since then, or an older value that no sync
+/// has ended. `docs/disk.md` has the model.
 pub trait Disk {
     /// What it began with and what was done to it since, where it tells.
     ghost past: { Self → Option Past };
@@ -24,6 +24,9 @@ pub trait Disk {
     /// How often it was read.
     ghost reads: { Self → ℕ };
 
+    /// Numbers by which its owner knows it again, after others had it. No call changes them.
+    ghost tie: { Self → List ℕ };
+
     fn pages(&self) -> u32
         ensures count { result ≡ pages self.now }
         ensures told { IfSome (past self.now) (IsPast (pages self.now)) };
@@ -35,8 +38,10 @@ pub trait Disk {
             (λ told. MayRead (state_of told page) out.new)) }
         ensures past_stays { past self.new ≡ past self.old }
         ensures pages_stay { pages self.new ≡ pages self.old }
+        ensures tie_stays { tie self.new ≡ tie self.old }
         ensures counted { reads self.new ≡ min (reads self.old + 1) (2 ^ 64 - 1) }
-        ensures faults_stay { faults self.old ≤ faults self.new }
+        ensures faults_never_fall { faults self.old ≤ faults self.new }
+        ensures told_before { IfSome (past self.old) (IsPast (pages self.old)) }
         ensures told { IfSome (past self.new) (IsPast (pages self.new)) }
         ensures cause { OnErr result (Rose (faults self.old) (faults self.new)) };
 
@@ -50,18 +55,23 @@ pub trait Disk {
             ((past self.new ≡ with_act (past self.old) (Failed page bytes.now))
             ⊎ (past self.new ≡ past self.old)) }
         ensures pages_stay { pages self.new ≡ pages self.old }
+        ensures tie_stays { tie self.new ≡ tie self.old }
         ensures reads_stay { reads self.new ≡ reads self.old }
-        ensures faults_stay { faults self.old ≤ faults self.new }
+        ensures faults_never_fall { faults self.old ≤ faults self.new }
+        ensures told_before { IfSome (past self.old) (IsPast (pages self.old)) }
         ensures told { IfSome (past self.new) (IsPast (pages self.new)) }
         ensures cause { OnErr result (Rose (faults self.old) (faults self.new)) };
 
-    /// Makes what was written last.
+    /// Ends the older values of every page: afterwards a page holds what was written to it last, or the
+    /// value of a write that failed since then. A sync that fails ends none.
     fn sync(&mut self) -> Result<(), DiskFailed>
         ensures synced { OnOk result (past self.new ≡ with_act (past self.old) Synced) }
         ensures failed { OnErr result (past self.new ≡ past self.old) }
         ensures pages_stay { pages self.new ≡ pages self.old }
+        ensures tie_stays { tie self.new ≡ tie self.old }
         ensures reads_stay { reads self.new ≡ reads self.old }
-        ensures faults_stay { faults self.old ≤ faults self.new }
+        ensures faults_never_fall { faults self.old ≤ faults self.new }
+        ensures told_before { IfSome (past self.old) (IsPast (pages self.old)) }
         ensures told { IfSome (past self.new) (IsPast (pages self.new)) }
         ensures cause { OnErr result (Rose (faults self.old) (faults self.new)) };
 }

@@ -4,8 +4,8 @@ ghost use Rattle.std.specs.Prelude.{◌≡◌, ◌≢◌, ◌⊎◌, ◌↔◌, 
 ghost use Rattle.std.specs.List.{AllByRecursion};
 ghost use Rattle.disk_model.specs.declared.act.Act.{Act};
 ghost use Rattle.disk_model.specs.declared.act.Act.TheVariants.{Wrote, Failed, Synced};
-ghost use Rattle.disk_model.specs.Past.{Page, Pages, Past, IsPage, IsPast, IsActIn, page_at, then_act, state_of, IsPossible};
-ghost use Rattle.disk_model.specs.Images.{IsImage, contents, moment};
+ghost use Rattle.disk_model.specs.Past.{Page, Pages, Past, IsPage, IsPast, IsActIn, page_at, then_act, state_of, IsPossible, IsLatest};
+ghost use Rattle.disk_model.specs.Images.{IsImage, IsLatestImage, contents, moment};
 
 /// A write, made or failed, leaves each image possible, and makes possible what each image becomes by
 /// that write, and nothing else.
@@ -26,9 +26,25 @@ pub fn images_after_write()
         × IsImage (then_act past (Failed n bytes)) (slice_set image n bytes) }
 {}
 
-/// A sync takes images away. A page whose writes have not failed since the last that succeeded has
-/// the value of that write in all that are left.
+/// After an act a value is possible at a page that was so before, or that the act writes there. A sync
+/// leaves what was written last and the values of writes that failed since then.
+pub fn possible_after_act()
+    ensures wrote { (past : Past) (page n : ℕ) (bytes value : Page)
+        → IsPossible (state_of (then_act past (Wrote page bytes)) n) value
+        ↔ (IsPossible (state_of past n) value ⊎ ((page ≡ n) × (value ≡ bytes))) }
+    ensures failed { (past : Past) (page n : ℕ) (bytes value : Page)
+        → IsPossible (state_of (then_act past (Failed page bytes)) n) value
+        ↔ (IsPossible (state_of past n) value ⊎ ((page ≡ n) × (value ≡ bytes))) }
+    ensures synced { (past : Past) (n : ℕ) (value : Page)
+        → IsPossible (state_of (then_act past Synced) n) value ↔ IsLatest (state_of past n) value }
+{}
+
+/// A sync takes images away, and leaves just those whose pages have each what was written last or the
+/// value of a write that failed since. A page whose writes have not failed since the last that succeeded
+/// has the value of that write in all that are left.
 pub fn images_after_sync()
+    ensures exact { (past : Past) (image : Pages) → IsImage (then_act past Synced) image
+        ↔ IsLatestImage past image }
     ensures fewer { (past : Past) (image : Pages) → IsImage (then_act past Synced) image
         → IsImage past image }
     ensures settled { (past : Past) (n : ℕ) (image : Pages) → n < length past.start

@@ -11,17 +11,17 @@ mod pages;
 mod power_loss;
 mod quiet;
 mod replay;
+mod rows;
 
 pub use act::Act;
 pub use copy::CopyFault;
 pub use disk::{Disk, DiskFailed};
 pub use fuse::FuseDisk;
 pub use laws::{
-    earlier_moment, fresh_disk, images_after_sync, images_after_write, pages_apart, untouched_page,
+    earlier_moment, fresh_disk, images_after_sync, images_after_write, pages_apart,
+    possible_after_act, untouched_page,
 };
 pub use mem::MemDisk;
 pub use power_loss::{Pick, RestartFault, restart};
 pub use quiet::QuietDisk;
-
-#[cfg(test)]
-mod tests;
+pub use rows::{settle_pages, write_pages};

@@ -6,7 +6,7 @@ ghost use Rattle.disk_model.specs.declared.act.Act.TheVariants.{Wrote, Failed, S
 ghost use Rattle.disk_model.specs.Past.{Past, IsPage, IsPast, then_act, with_act, state_of, MayRead, Rose, page_at, zero_pages};
 ghost use Rattle.disk_model.specs.Images.{IsImage, contents};
 ghost use Rattle.disk_model.specs.Picks.{synced_contents, AreGood, HasCause, Takes};
-ghost use Rattle.disk_model.specs.Kept.{new_mem, IsNextListed, called, faulted, starved, raised};
+ghost use Rattle.disk_model.specs.Disks.{new_mem, IsNextListed, after_call, after_fault, after_want, one_more, FailsWrite};
 
 use crate::act::Act;
 use crate::disk::{Disk, DiskFailed};
@@ -32,7 +32,7 @@ pub struct MemDisk {
 }
 
 impl Model for MemDisk {
-    ghost use Rattle.disk_model.specs.Kept.{Mem, IsKept};
+    ghost use Rattle.disk_model.specs.Disks.{Mem, IsKept};
 
     ghost Value = { Mem };
 
@@ -55,8 +55,9 @@ fn is_listed(failing: &[u64], call: u64) -> bool
     failing.contains(&call)
 }
 
-fn is_kept(acts: &mut Vec<Act>, act: Act) -> bool
-    ensures kept { result ≡ true → acts.new.items ≡ acts.old.items ++ act ∷ [] }
+// Puts an act behind the others. Whether there was memory for it.
+fn push_act(acts: &mut Vec<Act>, act: Act) -> bool
+    ensures pushed { result ≡ true → acts.new.items ≡ acts.old.items ++ act ∷ [] }
     ensures lost { result ≡ false → acts.new.items ≡ acts.old.items }
 {
     acts.push(act).is_ok()
@@ -86,6 +87,13 @@ impl MemDisk {
         ensures { result ≡ length self.now.past.trail }
     {
         self.acts.len() as u64
+    }
+
+    // How often it has failed.
+    pub(crate) fn faults(&self) -> u64
+        ensures { result ≡ self.now.faults }
+    {
+        self.faults
     }
 
     /// Whether memory was wanting for an act.
@@ -128,8 +136,9 @@ impl MemDisk {
 
     // A failure that leaves no act.
     pub(crate) fn fail(&mut self)
-        ensures disk { self.new ≡ faulted self.old }
-        ensures faults_stay { self.old.faults ≤ self.new.faults }
+        ensures disk { self.new ≡ after_fault self.old }
+        ensures faults_never_fall { self.old.faults ≤ self.new.faults }
+        ensures told_before { IsPast (length self.old.past.start) self.old.past }
         ensures told { IsPast (length self.new.past.start) self.new.past }
     {
         self.faults = self.faults.saturating_add(1);
@@ -137,9 +146,10 @@ impl MemDisk {
 
     // A read that fails.
     pub(crate) fn fail_read(&mut self)
-        ensures disk { self.new ≡ record (faulted self.old) { reads = raised self.old.reads } }
+        ensures disk { self.new ≡ record (after_fault self.old) { reads = one_more self.old.reads } }
+        ensures told_before { IsPast (length self.old.past.start) self.old.past }
         ensures told { IsPast (length self.new.past.start) self.new.past }
-        ensures faults_stay { self.old.faults ≤ self.new.faults }
+        ensures faults_never_fall { self.old.faults ≤ self.new.faults }
     {
         self.reads = self.reads.saturating_add(1);
         self.fail();
@@ -147,8 +157,8 @@ impl MemDisk {
 
     // A call fails for want of memory.
     fn starve(&mut self)
-        ensures disk { self.new ≡ starved self.old }
-        ensures faults_stay { self.old.faults ≤ self.new.faults }
+        ensures disk { self.new ≡ after_want self.old }
+        ensures faults_never_fall { self.old.faults ≤ self.new.faults }
         ensures told { IsPast (length self.new.past.start) self.new.past }
     {
         self.starved = true;
@@ -158,13 +168,12 @@ impl MemDisk {
     // A write that fails.
     pub(crate) fn fail_write(&mut self, page: u32, bytes: &[u8; 4096])
         requires { page < length self.old.past.start }
-        ensures disk { (self.new
-            ≡ record (faulted self.old) { past = then_act self.old.past (Failed page bytes.now) })
-            ⊎ (self.new ≡ starved self.old) }
-        ensures faults_stay { self.old.faults ≤ self.new.faults }
+        ensures disk { FailsWrite page bytes.now self.old self.new }
+        ensures faults_never_fall { self.old.faults ≤ self.new.faults }
+        ensures told_before { IsPast (length self.old.past.start) self.old.past }
         ensures told { IsPast (length self.new.past.start) self.new.past }
     {
-        if is_kept(&mut self.acts, Act::Failed(page, *bytes)) {
+        if push_act(&mut self.acts, Act::Failed(page, *bytes)) {
             self.fail();
         } else {
             self.starve();
@@ -181,6 +190,8 @@ impl Disk for MemDisk {
 
     ghost reads = { λ d. d.reads };
 
+    ghost tie = { λ d. d.failing };
+
     fn pages(&self) -> u32 {
         self.start.len() as u32
     }
@@ -191,11 +202,11 @@ impl Disk for MemDisk {
         ensures current { OnOk result (out.new ≡ page_at (contents self.old.past) page) }
         ensures value { OnOk result (MayRead (state_of self.old.past page) out.new) }
         ensures ok { OnOk result (self.new
-            ≡ record (called self.old) { reads = raised self.old.reads }) }
+            ≡ record (after_call self.old) { reads = one_more self.old.reads }) }
         ensures err { OnErr result (self.new
-            ≡ record (faulted (called self.old)) { reads = raised self.old.reads }) }
-        ensures told { IsPast (length self.old.past.start) self.old.past }
-        ensures faults_stay { self.old.faults ≤ self.new.faults }
+            ≡ record (after_fault (after_call self.old)) { reads = one_more self.old.reads }) }
+        ensures told_before { IsPast (length self.old.past.start) self.old.past }
+        ensures faults_never_fall { self.old.faults ≤ self.new.faults }
     {
         self.calls = self.calls.saturating_add(1);
         self.reads = self.reads.saturating_add(1);
@@ -211,20 +222,20 @@ impl Disk for MemDisk {
         requires { page < length self.old.past.start }
         ensures listed { IsNextListed self.old → IsErr result }
         ensures wrote { OnOk result (self.new
-            ≡ record (called self.old) { past = then_act self.old.past (Wrote page bytes.now) }) }
+            ≡ record (after_call self.old) { past = then_act self.old.past (Wrote page bytes.now) }) }
         ensures failed { OnErr result
-            ((IsNextListed self.old × (self.new ≡ record (faulted (called self.old))
-            { past = then_act self.old.past (Failed page bytes.now) }))
-            ⊎ (self.new ≡ starved (called self.old))) }
+            ((IsNextListed self.old × FailsWrite page bytes.now (after_call self.old) self.new)
+            ⊎ ((¬ IsNextListed self.old) × (self.new ≡ after_want (after_call self.old)))) }
+        ensures told_before { IsPast (length self.old.past.start) self.old.past }
         ensures told { IsPast (length self.new.past.start) self.new.past }
-        ensures faults_stay { self.old.faults ≤ self.new.faults }
+        ensures faults_never_fall { self.old.faults ≤ self.new.faults }
     {
         self.calls = self.calls.saturating_add(1);
         if is_listed(&self.failing, self.calls) {
             self.fail_write(page, bytes);
             return Err(DiskFailed);
         }
-        if !is_kept(&mut self.acts, Act::Wrote(page, *bytes)) {
+        if !push_act(&mut self.acts, Act::Wrote(page, *bytes)) {
             self.starve();
             return Err(DiskFailed);
         }
@@ -235,19 +246,20 @@ impl Disk for MemDisk {
     fn sync(&mut self) -> Result<(), DiskFailed>
         ensures listed { IsNextListed self.old → IsErr result }
         ensures synced { OnOk result (self.new
-            ≡ record (called self.old) { past = then_act self.old.past Synced }) }
+            ≡ record (after_call self.old) { past = then_act self.old.past Synced }) }
         ensures failed { OnErr result
-            ((IsNextListed self.old × (self.new ≡ faulted (called self.old)))
-            ⊎ (self.new ≡ starved (called self.old))) }
+            ((IsNextListed self.old × (self.new ≡ after_fault (after_call self.old)))
+            ⊎ ((¬ IsNextListed self.old) × (self.new ≡ after_want (after_call self.old)))) }
+        ensures told_before { IsPast (length self.old.past.start) self.old.past }
         ensures told { IsPast (length self.new.past.start) self.new.past }
-        ensures faults_stay { self.old.faults ≤ self.new.faults }
+        ensures faults_never_fall { self.old.faults ≤ self.new.faults }
     {
         self.calls = self.calls.saturating_add(1);
         if is_listed(&self.failing, self.calls) {
-            self.fail();
+            self.fail(); // adds no act
             return Err(DiskFailed);
         }
-        if !is_kept(&mut self.acts, Act::Synced) {
+        if !push_act(&mut self.acts, Act::Synced) {
             self.starve();
             return Err(DiskFailed);
         }

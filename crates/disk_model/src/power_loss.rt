@@ -4,7 +4,7 @@ ghost use Rattle.std.specs.Prelude.{◌≡◌, ◌≢◌, ℕ, [], length, Some,
 ghost use Rattle.std.specs.List.{All};
 ghost use Rattle.disk_model.specs.Past.{page_at};
 ghost use Rattle.disk_model.specs.Images.{IsImage};
-ghost use Rattle.disk_model.specs.Kept.{new_mem};
+ghost use Rattle.disk_model.specs.Disks.{new_mem};
 ghost use Rattle.disk_model.specs.Picks.{synced_contents, AreGood, HasCause, Takes};
 
 use crate::mem::MemDisk;

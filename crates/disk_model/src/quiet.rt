@@ -1,9 +1,9 @@
 //! A disk in memory that tells nothing of its past and never fails.
 
-ghost use Rattle.std.specs.Prelude.{◌≡◌, ◌⊎◌, ◌+◌, ◌-◌, ◌^◌, ◌<◌, ◌≤◌, min, length, Option, None, IsOk, IfOk, OnOk, OnErr, IfSome, slice_set};
+ghost use Rattle.std.specs.Prelude.{◌≡◌, ◌⊎◌, ◌+◌, ◌-◌, ◌^◌, ◌<◌, ◌≤◌, min, length, [], Option, None, IsOk, IfOk, OnOk, OnErr, IfSome, slice_set};
 ghost use Rattle.disk_model.specs.declared.act.Act.TheVariants.{Wrote, Failed, Synced};
 ghost use Rattle.disk_model.specs.Past.{Past, IsPast, with_act, state_of, MayRead, Rose, page_at, zero_pages};
-ghost use Rattle.disk_model.specs.Kept.{raised};
+ghost use Rattle.disk_model.specs.Disks.{one_more};
 
 use crate::disk::{Disk, DiskFailed};
 use crate::pages::zero_pages;
@@ -19,7 +19,7 @@ pub struct QuietDisk {
 
 impl Model for QuietDisk {
     ghost use Rattle.std.specs.Prelude.{length, ◌<◌, ◌^◌};
-    ghost use Rattle.disk_model.specs.Kept.{Quiet};
+    ghost use Rattle.disk_model.specs.Disks.{Quiet};
 
     ghost Value = { Quiet };
 
@@ -48,6 +48,8 @@ impl Disk for QuietDisk {
 
     ghost reads = { λ d. d.reads };
 
+    ghost tie = { λ d. [] };
+
     fn pages(&self) -> u32 {
         self.pages.len() as u32
     }
@@ -56,7 +58,7 @@ impl Disk for QuietDisk {
         requires { page < length self.old.pages }
         ensures succeeds { IsOk result }
         ensures value { out.new ≡ page_at self.old.pages page }
-        ensures disk { self.new ≡ record self.old { reads = raised self.old.reads } }
+        ensures disk { self.new ≡ record self.old { reads = one_more self.old.reads } }
     {
         self.reads = self.reads.saturating_add(1);
         *out = self.pages[page as usize];

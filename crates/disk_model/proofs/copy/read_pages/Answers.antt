@@ -2,7 +2,7 @@ use Rattle.std.proofs.Common.{◌+◌, IfSome, sym, subst, ◌∙◌, arith}
 use Rattle.std.specs.List.{AllByRecursion}
 use Rattle.std.proofs.lemmas.List.{length_push}
 use Rattle.disk_model.specs.Past.{Pages, IsPage}
-use Rattle.disk_model.specs.Kept.{ReadsPages}
+use Rattle.disk_model.specs.Disks.{ReadsPages}
 use Rattle.disk_model.proofs.CopyLemmas.{pages_push, reads_push}
 use Rattle.disk_model.proofs.copy.read_pages.Goals as goal
 
@@ -17,8 +17,9 @@ loop-page-preserved g c =
       size = rw step.read.1 (omega (arith, length_push c.loop-page.pages.items bytes, inv.size));
       read = subst (λ (l : Pages). IfSome (g.D.Disk.past c.args.disk.now) (λ past. ReadsPages past (c.loop-page.page + 1) l)) (sym {A = Pages} step.read.1) (reads_push (g.D.Disk.past c.args.disk.now) c.loop-page.page c.loop-page.pages.items bytes inv.read may);
       past_stays = step.past_stays ∙ inv.past_stays;
+      tie_stays = step.tie_stays ∙ inv.tie_stays;
       pages_stay = step.pages_stay ∙ inv.pages_stay;
       counted = omega (arith, step.counted, inv.counted);
       reads = omega (arith, step.counted, inv.reads);
-      faults_stay = omega (arith, step.faults_stay, inv.faults_stay);
+      faults_never_fall = omega (arith, step.faults_never_fall, inv.faults_never_fall);
     }

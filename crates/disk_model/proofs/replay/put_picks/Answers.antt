@@ -1,8 +1,8 @@
 use Rattle.std.proofs.Common.{List, get_or, take, sym, subst, arith, ap, length, false}
 use Rattle.std.proofs.lemmas.List.{take_more, length-replicate}
 use Rattle.disk_model.specs.declared.power_loss.Pick.{Pick}
-use Rattle.disk_model.specs.Picks.{AreGood, Takes, Marks}
-use Rattle.disk_model.proofs.PickLemmas.{good_more, takes_more, marks_more, bad_more}
+use Rattle.disk_model.specs.Picks.{AreGood, Takes}
+use Rattle.disk_model.proofs.PickLemmas.{Marks, good_more, takes_more, marks_more, bad_more}
 use Rattle.disk_model.proofs.replay.put_picks.Goals as goal
 
 pub loop-n-preserved : goal.loop-n-preserved

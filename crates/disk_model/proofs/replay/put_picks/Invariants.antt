@@ -1,5 +1,6 @@
 use Rattle.std.proofs.Common.{take}
-use Rattle.disk_model.specs.Picks.{AreGood, Takes, Marks}
+use Rattle.disk_model.specs.Picks.{AreGood, Takes}
+use Rattle.disk_model.proofs.PickLemmas.{Marks}
 use Rattle.disk_model.proofs.replay.put_picks.Given as goal
 
 abbrev pub invariant-loop-n : goal.invariant-loop-n

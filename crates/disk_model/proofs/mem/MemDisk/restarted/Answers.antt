@@ -1,6 +1,6 @@
 use Rattle.std.proofs.Common.{length, ap, subst, arith}
 use Rattle.disk_model.specs.Images.{IsImage}
-use Rattle.disk_model.specs.Kept.{Mem}
+use Rattle.disk_model.specs.Disks.{Mem}
 use Rattle.disk_model.proofs.ImageLemmas.{image-are_pages}
 use Rattle.disk_model.proofs.PickLemmas.{takes_image_at}
 use Rattle.disk_model.proofs.mem.MemDisk.restarted.Goals as goal

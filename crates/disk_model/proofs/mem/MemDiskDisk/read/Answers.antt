@@ -2,7 +2,7 @@ use Rattle.std.proofs.Common.{◌<◌, [], length, ap, subst, ◌∙◌, arith}
 use Rattle.std.proofs.lemmas.List.{get_or_read}
 use Rattle.disk_model.specs.Past.{Pages, IsPast, page_at}
 use Rattle.disk_model.specs.Images.{contents}
-use Rattle.disk_model.specs.Kept.{Mem}
+use Rattle.disk_model.specs.Disks.{Mem}
 use Rattle.disk_model.proofs.KeptLemmas.{kept_length, may_read}
 use Rattle.disk_model.proofs.mem.MemDiskDisk.read.Goals as goal
 
@@ -17,5 +17,5 @@ returns-clause-current c =
 pub returns-clause-value : goal.returns-clause-value
 returns-clause-value c = may_read c.args.self.now.past c.args.page c.index.result.now c.requires (returns-clause-current c)
 
-pub returns-clause-told : goal.returns-clause-told
-returns-clause-told c = subst (λ (m : Mem). IsPast (length m.past.start) m.past) c.self.view_is c.self.invariant.told
+pub returns-clause-told_before : goal.returns-clause-told_before
+returns-clause-told_before c = subst (λ (m : Mem). IsPast (length m.past.start) m.past) c.self.view_is c.self.invariant.told

@@ -1,6 +1,6 @@
 use Rattle.std.proofs.Common.{◌<◌, length, ap, refl, arith}
 use Rattle.disk_model.specs.declared.act.Act.TheVariants.{Wrote}
-use Rattle.disk_model.specs.Kept.{Mem}
+use Rattle.disk_model.specs.Disks.{Mem}
 use Rattle.disk_model.proofs.KeptLemmas.{kept_length, kept_act_to}
 use Rattle.disk_model.proofs.mem.MemDiskDisk.write.Goals as goal
 
@@ -10,7 +10,7 @@ index_mut-requires c = omega (arith, kept_length _ _ c.self.invariant, ap (λ (m
 pub invariant_of-self-2 : goal.invariant_of-self-2
 invariant_of-self-2 c =
     let inside : c.args.page < length c.self.inside.start.items = omega (arith, ap (λ (m : Mem). length m.past.start) c.self.view_is) in
-    kept_act_to _ _ _ _ _ (Wrote c.args.page c.args.bytes.now) c.self.invariant inside (record { size = c.told-bytes; bytes = c.fits-bytes }) (c.is_kept.ensures.kept (c.if-not-is_kept.false)) refl
+    kept_act_to _ _ _ _ _ (Wrote c.args.page c.args.bytes.now) c.self.invariant inside (record { size = c.told-bytes; bytes = c.fits-bytes }) (c.push_act.ensures.pushed (c.if-not-push_act.false)) refl
 
 pub returns-clause-told : goal.returns-clause-told
 returns-clause-told c = (invariant_of-self-2 c).told

@@ -1,8 +1,6 @@
-mod commit;
-
 ghost use Rattle.std.specs.Prelude.{◌≡◌, ◌<◌};
 
-use crate::{CopyFault, Disk, FuseDisk, MemDisk, Pick, QuietDisk, RestartFault, restart};
+use disk_model::{CopyFault, Disk, FuseDisk, MemDisk, Pick, QuietDisk, RestartFault, restart};
 use std::alloc::{AllocError, Global};
 use std::test::Fail;
 
