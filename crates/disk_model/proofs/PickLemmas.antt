@@ -9,7 +9,7 @@ use Rattle.disk_model.specs.declared.act.Act.{Act}
 use Rattle.disk_model.specs.declared.power_loss.Pick.{Pick}
 use Rattle.disk_model.specs.Past.{Page, Pages, page_at, PageState, Past, after_acts, state_of, IsPossible}
 use Rattle.disk_model.specs.Images.{IsImage, contents_after}
-use Rattle.disk_model.specs.Picks.{synced_len, synced_contents, value_on, pick_value, AreGood, Takes, Puts}
+use Rattle.disk_model.specs.Picks.{synced_len, synced_contents, value_on, pick_value, AreGood, Takes}
 use Rattle.disk_model.proofs.StateLemmas.{after_acts-append}
 use Rattle.disk_model.proofs.ImageLemmas.{now_after, length-contents_after}
 use Rattle.disk_model.proofs.ReplayLemmas.{no_sync_after, stays_possible, comes_possible, slice_get-drop}
@@ -19,6 +19,14 @@ pub record Marks (picks : List Pick) (marks : List Bool) : Type 0 where
   pub count : count_by (λ b. b) marks ≡ length picks
   pub marked : (n : ℕ) → get_or marks n false ≡ true → (k : ℕ) × (k < length picks) × ((d : Pick) → (get_or picks k d).page ≡ n)
   pub unmarked : (n : ℕ) → get_or marks n false ≡ false → All (λ pick. pick.page ≢ n) picks
+
+-- the page of a pick, which had no mark, gets its value and a mark
+pub record Puts (trail : List Act) (pick : Pick) (old : Pages) (marks : List Bool)
+    (new : Pages) (new_marks : List Bool) : Type 0 where
+  pub inside : pick.page < length old
+  pub free : get_or marks pick.page false ≡ false
+  pub value : (bytes : Page) × (pick_value trail pick ≡ Some bytes) × (new ≡ set old pick.page bytes)
+  pub mark : new_marks ≡ set marks pick.page true
 
 pub good_none : (trail : List Act) → AreGood trail []
 good_none trail = record { each = All-nil (λ pick. IsSome (pick_value trail pick)); apart = λ i j d lt le. absurd (omega (arith, le)) }

@@ -1,5 +1,5 @@
 -- Which crash image a restart is asked for.
-use Rattle.std.specs.Prelude.{ℕ, ◌≡◌, ◌≢◌, ◌+◌, ◌<◌, ◌==◌, ⊤, if◌then◌else◌, Bool, true, false, List, [], ◌∷◌, length, take, nat_lt, slice_get, slice_index_or, slice_set, Option, Some, None, IsSome}
+use Rattle.std.specs.Prelude.{ℕ, ◌≡◌, ◌≢◌, ◌+◌, ◌==◌, ⊤, if◌then◌else◌, Bool, true, false, List, [], ◌∷◌, length, take, nat_lt, slice_get, Option, Some, None, IsSome}
 use Rattle.std.specs.List.{All, AllPairs}
 use Rattle.disk_model.specs.declared.act.Act.{Act}
 use Rattle.disk_model.specs.declared.act.Act.TheVariants.{Wrote, Failed, Synced}
@@ -55,11 +55,3 @@ pub record Takes (trail : List Act) (picks : List Pick) (old new : Pages) : Type
   pub size : length new ≡ length old
   pub picked : All (λ pick. pick_value trail pick ≡ Some (page_at new pick.page)) picks
   pub others : (n : ℕ) → All (λ pick. pick.page ≢ n) picks → page_at new n ≡ page_at old n
-
--- the page of a pick, which had no mark, gets its value and a mark
-pub record Puts (trail : List Act) (pick : Pick) (old : Pages) (marks : List Bool)
-    (new : Pages) (new_marks : List Bool) : Type 0 where
-  pub inside : pick.page < length old
-  pub free : slice_index_or marks pick.page false ≡ false
-  pub value : (bytes : Page) × (pick_value trail pick ≡ Some bytes) × (new ≡ slice_set old pick.page bytes)
-  pub mark : new_marks ≡ slice_set marks pick.page true

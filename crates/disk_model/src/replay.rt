@@ -3,9 +3,9 @@
 ghost use Rattle.std.specs.Prelude.{◌≡◌, ◌⊎◌, ℕ, ◌+◌, ◌^◌, ◌<◌, ◌≤◌, length, take, [], ◌∷◌, true, false, Some, None, IsOk, IfOk, IfErr, OnOk, slice_set, slice_index_or, replicate};
 ghost use Rattle.std.specs.List.{AllByRecursion};
 ghost use Rattle.std.specs.Option.{option_copied};
-ghost use Rattle.disk_model.specs.Past.{IsActIn};
+ghost use Rattle.disk_model.specs.Past.{Page, IsActIn};
 ghost use Rattle.disk_model.specs.Images.{contents_after};
-ghost use Rattle.disk_model.specs.Picks.{is_sync, synced_len, pick_value, AreGood, HasCause, Takes, Puts};
+ghost use Rattle.disk_model.specs.Picks.{is_sync, synced_len, pick_value, AreGood, HasCause, Takes};
 
 use crate::act::Act;
 use crate::power_loss::{Pick, RestartFault};
@@ -76,7 +76,11 @@ fn put_pick(
     requires synced { synced ≡ synced_len acts.now }
     requires range { AllByRecursion (IsActIn (λ n. n < length pages.old)) acts.now }
     requires size { length marks.old ≡ length pages.old }
-    ensures put { result ≡ true → Puts acts.now pick.now pages.old marks.old pages.new marks.new }
+    ensures inside { result ≡ true → pick.now.page < length pages.old }
+    ensures free { result ≡ true → slice_index_or marks.old pick.now.page false ≡ false }
+    ensures put { result ≡ true → (bytes : Page) × (pick_value acts.now pick.now ≡ Some bytes)
+        × (pages.new ≡ slice_set pages.old pick.now.page bytes) }
+    ensures marked { result ≡ true → marks.new ≡ slice_set marks.old pick.now.page true }
     ensures bad { result ≡ false → (pick_value acts.now pick.now ≡ None)
         ⊎ (slice_index_or marks.old pick.now.page false ≡ true) }
 {

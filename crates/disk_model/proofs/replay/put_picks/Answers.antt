@@ -2,7 +2,7 @@ use Rattle.std.proofs.Common.{List, get_or, take, sym, subst, arith, ap, length,
 use Rattle.std.proofs.lemmas.List.{take_more, length-replicate}
 use Rattle.disk_model.specs.declared.power_loss.Pick.{Pick}
 use Rattle.disk_model.specs.Picks.{AreGood, Takes}
-use Rattle.disk_model.proofs.PickLemmas.{Marks, good_more, takes_more, marks_more, bad_more}
+use Rattle.disk_model.proofs.PickLemmas.{Marks, Puts, good_more, takes_more, marks_more, bad_more}
 use Rattle.disk_model.proofs.replay.put_picks.Goals as goal
 
 pub loop-n-preserved : goal.loop-n-preserved
@@ -12,7 +12,9 @@ loop-n-preserved c =
     let pick = get_or c.args.picks.now c.loop-n.n d in
     let more = sym (take_more c.args.picks.now c.loop-n.n d c.loop-n-test.true) in
     let inv = c.loop-n.invariant in
-    let puts = c.put_pick.ensures.put c.if-not-put_pick.false in
+    let e = c.put_pick.ensures in
+    let is = c.if-not-put_pick.false in
+    let puts : Puts c.args.acts.now pick c.loop-n.pages c.loop-n.marks c.put_pick.new.pages c.put_pick.new.marks = record { inside = e.inside is; free = e.free is; value = e.put is; mark = e.marked is } in
     record {
       good = subst (λ (l : List Pick). AreGood c.args.acts.now l) more (good_more c.args.acts.now so_far pick c.args.pages.now c.loop-n.pages c.put_pick.new.pages c.loop-n.marks c.put_pick.new.marks inv.good inv.takes inv.marks puts);
       takes = subst (λ (l : List Pick). Takes c.args.acts.now l c.args.pages.now c.put_pick.new.pages) more (takes_more c.args.acts.now so_far pick c.args.pages.now c.loop-n.pages c.put_pick.new.pages c.loop-n.marks c.put_pick.new.marks inv.good inv.takes inv.marks puts);
