@@ -1,6 +1,9 @@
 -- How the table begins, how seats are split off and taken in, and how it ends.
-use Rattle.std.proofs.Common.{◌≤◌, ◌≡◌, ◌≢◌, ◌⊎◌, ℕ, zero, suc, ◌+◌, ◌%◌, ◌^◌, ◌<◌, eqb, Bool, true, false, List, [], ◌∷◌, ◌++◌, length, get_or, set, sym, refl, ap, ◌∙◌, subst, ⊎_elim, inl, inr, arith, Option, Some, length-set, length-append, ltb-true, ltb-false}
+use Rattle.std.proofs.Common.{◌≡◌, ◌≢◌, ◌⊎◌, ℕ, zero, suc, ◌+◌, ◌%◌, ◌^◌, ◌<◌, eqb, Bool, true, false, List, [], ◌∷◌, ◌++◌, length, get_or, set, sym, refl, ap, ◌∙◌, subst, ⊎_elim, inl, inr, arith, Option, Some, length-set, length-append, ltb-true, ltb-false}
 use Rattle.std.specs.Prelude.{nat_lt, if◌then◌else◌}
+use Rattle.std.specs.List.{All}
+use Rattle.std.proofs.lemmas.List.Elements.{All-nil, All-cons}
+use Rattle.std.proofs.Math.Nat.{mod-eq_of_lt}
 use mathlib.Core.Logic.{dite}
 use mathlib.Core.Option.{none, some, some-injective, some-ne-none}
 use native.Mathlib.Decide.{ℕ_discrete}
@@ -10,47 +13,51 @@ use prog.Atomic.{either}
 use Rattle.atomic_table.specs.Table.{State, step, keeps, Allows, Splits, Joins, opening, Final, Seen}
 use Rattle.atomic_table.proofs.Lists.{at_set, set_else, at_longer, at_snoc, exchanged}
 use Rattle.turn_lock.specs.Sitting.{Has}
-use Rattle.turn_lock.specs.Rule.{Log, Grows, Alike, Kept, SeatOk, Differ, IsHolder, turns, knows_or, knowing, beginning, starting, AllSame}
+use Rattle.turn_lock.specs.Rule.{Log, Grows, Alike, Remains, EndedWith, Kept, SeatOk, Differ, IsHolder, turns, knows_or, knowing, beginning, starting, AllSame}
 use Rattle.turn_lock.specs.Steps.{named, split_left, split_right, longer, joined, told}
 use Rattle.turn_lock.specs.declared.board.Stage.TheVariants.{Rests, Names, Joined}
 use Rattle.turn_lock.specs.declared.board.Knows.{Knows}
 use Rattle.turn_lock.specs.declared.board.View.{View}
 use Rattle.turn_lock.specs.declared.board.View.TheVariants.{Spent, Sits}
-use Rattle.turn_lock.proofs.Lists.{begins_itself, begins_on, begins_both, between, all_alike, turns_set, turns_snoc, whether, at_end}
-use Rattle.turn_lock.proofs.Keeps.{each_seat, each_pair, flip, regard, restaged, moved, at_home, same_turn}
+use Rattle.turn_lock.proofs.Lists.{begins_itself, begins_on, begins_both, between, all_alike, all_of, turns_set, turns_snoc, whether, at_end}
+use Rattle.turn_lock.proofs.Keeps.{each_seat, each_pair, flip, regard, restaged, moved, at_home, same_turn, knows_unsplit}
 
 module _ {T E O H : Type 0} (r : Log T E O H) (key : T) where
   abbrev St : Type 0
   St = State (Option T) (View T)
 
-  pub starts : Kept r key (opening (0 ∷ 0 ∷ 0 ∷ []) (Some key ∷ []) (starting key))
-  starts = record {
+  -- the first two words have the same number
+  pub starts : (words : List ℕ) (n : ℕ) → 1 < length words → n < 2 ^ 64 → get_or words 0 0 ≡ n → get_or words 1 0 ≡ n → Kept r key (opening words (Some key ∷ []) (starting key))
+  starts words n long small ticket serving = record {
     cur = key;
-    served = 0;
-    rings = 0;
+    served = n;
     splits = [];
     ended = [];
-    sizes = (refl, refl);
-    ticket = refl;
-    serving = refl;
-    bell = refl;
-    heard = λ i k e. subst (λ (z : Knows T). z.heard ≤ 0) (here i k e).1 (omega arith);
+    sizes = (long, refl);
+    ticket = ticket ∙ (sym below ∙ ap (λ (z : ℕ). z % 2 ^ 64) whole);
+    serving = serving ∙ sym below;
     origin = refl;
     grown = begins_itself (r.entries key);
     few = refl;
     lanes = tt;
-    were = λ l h. h;
+    were = λ l h. absurd h;
     each = one;
     apart = alone;
     unsplit = λ l apart h. (refl, refl);
     home = inl refl;
   }
     where
+      below : n % 2 ^ 64 ≡ n
+      below = mod-eq_of_lt small
+
+      whole : n ≡ n + 0
+      whole = omega arith
+
       here : (i : ℕ) (k : Knows T) → get_elem? (starting key ∷ []) i ≡ some (Sits k) → (i ≡ 0) × (beginning key ≡ k)
       here zero k e = (refl, ap (knows_or key) (some-injective (starting key) (Sits k) e))
       here (suc i) k e = absurd (some-ne-none (Sits k) (sym e))
 
-      begun : SeatOk r key key 0 0 [] [] (beginning key)
+      begun : SeatOk r key key n 0 [] [] (beginning key)
       begun = record {
         made = refl;
         since = begins_itself (r.entries key);
@@ -60,17 +67,18 @@ module _ {T E O H : Type 0} (r : Log T E O H) (key : T) where
         first = λ e. (refl, refl);
         other = λ ne. absurd (ne refl);
         gone = λ first l h. refl;
+        remains = λ first. All-nil (EndedWith r [] key);
         stage = tt;
       }
 
-      one : (i : ℕ) (k : Knows T) → get_elem? (starting key ∷ []) i ≡ some (Sits k) → SeatOk r key key 0 0 [] [] k
-      one i k e = subst (SeatOk r key key 0 0 [] []) (here i k e).1 begun
+      one : (i : ℕ) (k : Knows T) → get_elem? (starting key ∷ []) i ≡ some (Sits k) → SeatOk r key key n 0 [] [] k
+      one i k e = subst (SeatOk r key key n 0 [] []) (here i k e).1 begun
 
       alone : (i j : ℕ) (k m : Knows T) → get_elem? (starting key ∷ []) i ≡ some (Sits k) → get_elem? (starting key ∷ []) j ≡ some (Sits m) → i ≢ j → Differ k m
       alone i j k m a b ne = absurd (ne ((here i k a).0 ∙ sym (here j m b).0))
 
   pub names : (slots id lane : ℕ) (k : Knows T)
-      → Allows (Kept r key) slots id (Sits (record k { stage = Rests }), []) 0 (λ n. either (eqb n lane) lane n) (named (step slots 0 lane lane none) (Sits (record k { stage = Rests }), []))
+      → Allows (Kept r key) slots id (Sits (record k { stage = Rests }), []) 0 (λ n. either (eqb n lane) lane n) (named r (step slots 0 lane lane none) (Sits (record k { stage = Rests }), []))
   names slots id lane k s q deep at fits =
       let old : Knows T = record k { stage = Rests } in
       let k' : Knows T = record k { stage = Names lane } in
@@ -82,14 +90,14 @@ module _ {T E O H : Type 0} (r : Log T E O H) (key : T) where
         keeps,
         tt,
         subst (λ (w : List ℕ). Kept r key record { words = w; homes = s.homes; views = set s.views id (Sits k') }) (sym (ap (λ (z : ℕ). set s.words 0 z) same ∙ set-get_or s.words 0 0))
-            (moved r key s q id k' s.words s.homes q.cur q.served q.rings q.sizes.0 q.sizes.1
-            (q.ticket ∙ ap (λ (z : ℕ). (q.served + z) % 2 ^ 64) (sym out)) q.serving q.bell (omega arith) (q.heard id old at) q.origin q.grown
-            (restaged r key q.cur q.served (turns s.views) (turns (set s.views id (Sits k'))) q.splits q.ended old k.heard (Names lane) tt (q.each id old at))
+            (moved r key s q id k' s.words s.homes q.cur q.served refl q.sizes.1
+            (q.ticket ∙ ap (λ (z : ℕ). (q.served + z) % 2 ^ 64) (sym out)) q.serving q.origin q.grown
+            (restaged r key q.cur q.served (turns s.views) (turns (set s.views id (Sits k'))) q.splits q.ended old (Names lane) tt (q.each id old at))
             (λ j m ne atj. regard r key q.cur q.served (turns s.views) (turns (set s.views id (Sits k'))) q.splits q.ended m (omega arith) (q.each j m atj))
             (λ j m ne atj. same_turn r key old k' m refl (λ u h. h) (q.apart id j old m at atj (λ e. ne (sym e))))
             q.unsplit
             (at_home r key s q.cur id old k' at (λ h. h) q.home)),
-        refl,
+        (refl, knows_unsplit r key s q id old at),
       )
 
   pub splits : (id lane : ℕ) (k : Knows T) → k.lane ≡ 0 → lane ≢ 0 → lane < 2 ^ 32 → ¬ Has k.splits lane
@@ -97,7 +105,7 @@ module _ {T E O H : Type 0} (r : Log T E O H) (key : T) where
   splits id lane k first some_lane small new s q at =
       let old : Knows T = record k { stage = Names lane } in
       let k' : Knows T = record k { splits = lane ∷ k.splits; stage = Rests } in
-      let fresh : Knows T = knowing lane k.made k.seen k.made [] [] k.heard Rests in
+      let fresh : Knows T = knowing lane k.made k.seen k.made Rests in
       let more = turns_set s.views id (Sits old) (Sits k') at in
       let last = turns_snoc (set s.views id (Sits k')) (Sits fresh) in
       let views' : List (View T) = set s.views id (Sits k') ++ Sits fresh ∷ [] in
@@ -116,6 +124,7 @@ module _ {T E O H : Type 0} (r : Log T E O H) (key : T) where
         first = λ e. (ap (λ (z : List ℕ). lane ∷ z) mine.0, mine.1);
         other = λ ne. absurd (ne first);
         gone = ok.gone;
+        remains = ok.remains;
         stage = tt;
       } in
       let right : P fresh = record {
@@ -125,8 +134,9 @@ module _ {T E O H : Type 0} (r : Log T E O H) (key : T) where
         own = between r.by lane (r.entries key) (r.entries k.seen) (r.entries q.cur) ok.since ok.seen here.0;
         kept = ap (r.held lane) ok.made ∙ here.1;
         first = λ e. absurd (some_lane e);
-        other = λ ne. (inl refl, (λ h. new' (q.were lane h)));
+        other = λ ne. (inl refl, (λ h. new' (q.were lane h).0));
         gone = λ e. absurd (some_lane e);
+        remains = λ e. absurd (some_lane e);
         stage = tt;
       } in
       let others : (j : ℕ) (m : Knows T) → j ≢ id → get_elem? s.views j ≡ some (Sits m) → P m = (λ j m ne atj.
@@ -141,6 +151,7 @@ module _ {T E O H : Type 0} (r : Log T E O H) (key : T) where
         first = λ e. absurd (d.0 (first ∙ sym e));
         other = λ n. let o = okm.other n in (inr o.0, o.1);
         gone = λ e. absurd (d.0 (first ∙ sym e));
+        remains = λ e. absurd (d.0 (first ∙ sym e));
         stage = okm.stage;
       }) in
       let inner : (j : ℕ) (m : Knows T) → get_elem? (set s.views id (Sits k')) j ≡ some (Sits m) → P m = each_seat key P s.views id k' left others in
@@ -152,11 +163,6 @@ module _ {T E O H : Type 0} (r : Log T E O H) (key : T) where
       record {
         cur = q.cur;
         served = q.served;
-        rings = q.rings;
-        bell = q.bell;
-        heard = λ j m e. ⊎_elim (each_seat key (λ z. z.heard ≤ q.rings) s.views id k' (q.heard id old at) (λ i h ne ati. q.heard i h ati) j m)
-            (λ (t : (j ≡ length (set s.views id (Sits k'))) × (Sits fresh ≡ Sits m)). subst (λ (z : Knows T). z.heard ≤ q.rings) (ap (knows_or key) t.1) (q.heard id old at))
-            (at_end (set s.views id (Sits k')) (Sits fresh) (Sits m) j e);
         splits = lane ∷ q.splits;
         ended = q.ended;
         sizes = q.sizes;
@@ -166,7 +172,7 @@ module _ {T E O H : Type 0} (r : Log T E O H) (key : T) where
         grown = q.grown;
         few = length-append (set s.views id (Sits k')) (Sits fresh ∷ []) ∙ omega (arith, length-set s.views id (Sits k'), q.few);
         lanes = (new', small, q.lanes);
-        were = λ l h. inr (q.were l h);
+        were = λ l h. (inr (q.were l h).0, (q.were l h).1);
         each = λ j m e. ⊎_elim (inner j m) (λ (t : (j ≡ length (set s.views id (Sits k'))) × (Sits fresh ≡ Sits m)). subst P (ap (knows_or key) t.1) right) (at_end (set s.views id (Sits k')) (Sits fresh) (Sits m) j e);
         apart = λ i j h m ei ej ne. ⊎_elim
             (λ (a : get_elem? (set s.views id (Sits k')) i ≡ some (Sits h)). ⊎_elim
@@ -207,7 +213,7 @@ module _ {T E O H : Type 0} (r : Log T E O H) (key : T) where
       let k0 : Knows T = record k { stage = Rests } in
       let m0 : Knows T = record m { stage = Rests } in
       let z : T = longer r k.seen m.seen in
-      let k1 : Knows T = record k { seen = z; ended = m.lane ∷ k.ended; stage = Joined k.seen m.seen m.lane } in
+      let k1 : Knows T = record k { seen = z; ended = m.lane ∷ k.ended; remains = (m.lane, m.kept) ∷ k.remains; stage = Joined k.seen m.seen m.lane } in
       let vs1 : List (View T) = set s.views id (Sits k1) in
       let vs2 : List (View T) = set vs1 other Spent in
       let atm : get_elem? s.views other ≡ some (Sits m0) = sym (set_else s.views id other (Sits k1) ne) ∙ at1 in
@@ -234,6 +240,7 @@ module _ {T E O H : Type 0} (r : Log T E O H) (key : T) where
         first = λ e. (lists.0, ap (λ (w : List ℕ). m.lane ∷ w) lists.1);
         other = λ n. absurd (n first);
         gone = λ e l h. ⊎_elim (λ (f : l ≡ m.lane). as_theirs l (subst (λ (w : ℕ). Alike r w m.seen q.cur) (sym f) okm.own)) (λ (f : Has q.ended l). as_mine l (gone_of l f)) h;
+        remains = λ e. All-cons (EndedWith r ended' q.cur) (m.lane, m.kept) k.remains (inl refl, okm.kept) (all_of (EndedWith r q.ended q.cur) (EndedWith r ended' q.cur) k.remains (λ p h. (inr h.0, h.1)) (okk.remains first));
         stage = record {
           longer = far.0;
           ours = far.1;
@@ -258,6 +265,7 @@ module _ {T E O H : Type 0} (r : Log T E O H) (key : T) where
         first = λ e. absurd (d.0 (first ∙ sym e));
         other = λ n. let o = okh.other n in (o.0, (λ g. ⊎_elim (λ (f : h.lane ≡ m.lane). dm.0 (sym f)) o.1 g));
         gone = λ e. absurd (d.0 (first ∙ sym e));
+        remains = λ e. absurd (d.0 (first ∙ sym e));
         stage = okh.stage;
       }) in
       let Q : ℕ → Knows T → Type 0 = (λ j h. j ≢ other → P h) in
@@ -268,9 +276,6 @@ module _ {T E O H : Type 0} (r : Log T E O H) (key : T) where
       record {
         cur = q.cur;
         served = q.served;
-        rings = q.rings;
-        bell = q.bell;
-        heard = λ j h e. each_seat key (λ w. w.heard ≤ q.rings) s.views id k1 (q.heard id k0 at) (λ i g n ati. q.heard i g ati) j h (past_spent vs1 other j h e).1;
         splits = q.splits;
         ended = ended';
         sizes = q.sizes;
@@ -280,7 +285,7 @@ module _ {T E O H : Type 0} (r : Log T E O H) (key : T) where
         grown = q.grown;
         few = length-set vs1 other Spent ∙ (length-set s.views id (Sits k1) ∙ q.few);
         lanes = q.lanes;
-        were = λ l h. ⊎_elim (λ (f : l ≡ m.lane). subst (Has q.splits) (sym f) theirs.0) (λ (f : Has q.ended l). q.were l f) h;
+        were = λ l h. ⊎_elim (λ (f : l ≡ m.lane). (subst (Has q.splits) (sym f) theirs.0, (λ e. apart (first ∙ sym (sym f ∙ e))))) (λ (f : Has q.ended l). q.were l f) h;
         each = λ j h e. let p = past_spent vs1 other j h e in each1 j h p.0 p.1;
         apart = λ i j g h ei ej n. pairs i j g h (past_spent vs1 other i g ei).1 (past_spent vs1 other j h ej).1 n;
         unsplit = q.unsplit;
@@ -304,14 +309,14 @@ module _ {T E O H : Type 0} (r : Log T E O H) (key : T) where
         keeps,
         tt,
         subst (λ (w : List ℕ). Kept r key record { words = w; homes = s.homes; views = set s.views id (Sits k') }) (sym (set-get_or s.words 0 0))
-            (moved r key s q id k' s.words s.homes q.cur q.served q.rings q.sizes.0 q.sizes.1
-            (q.ticket ∙ ap (λ (z : ℕ). (q.served + z) % 2 ^ 64) (sym out)) q.serving q.bell (omega arith) (q.heard id old at) q.origin q.grown
-            (restaged r key q.cur q.served (turns s.views) (turns (set s.views id (Sits k'))) q.splits q.ended old k.heard Rests tt (q.each id old at))
+            (moved r key s q id k' s.words s.homes q.cur q.served refl q.sizes.1
+            (q.ticket ∙ ap (λ (z : ℕ). (q.served + z) % 2 ^ 64) (sym out)) q.serving q.origin q.grown
+            (restaged r key q.cur q.served (turns s.views) (turns (set s.views id (Sits k'))) q.splits q.ended old Rests tt (q.each id old at))
             (λ j m ne atj. regard r key q.cur q.served (turns s.views) (turns (set s.views id (Sits k'))) q.splits q.ended m (omega arith) (q.each j m atj))
             (λ j m ne atj. same_turn r key old k' m refl (λ u h. absurd h) (q.apart id j old m at atj (λ e. ne (sym e))))
             q.unsplit
             (at_home r key s q.cur id old k' at (λ h. absurd h) q.home)),
-        (refl, (q.each id old at).stage),
+        (refl, (q.each id old at).stage, knows_unsplit r key s q id old at),
       )
 
   -- what the value is at the end
@@ -321,6 +326,8 @@ module _ {T E O H : Type 0} (r : Log T E O H) (key : T) where
     pub since : Grows r k.made x
     pub unsplit : (l : ℕ) → l ≢ 0 → ¬ Has k.splits l → Alike r l k.made x
     pub kept : r.held 0 x ≡ r.held k.lane k.kept
+    pub remains : All (Remains r x) k.remains
+    pub untouched : (l : ℕ) → l ≢ 0 → ¬ Has k.splits l → r.held l k.made ≡ r.held l x
 
   pub closes : (id : ℕ) (k : Knows T) (words : List ℕ) (slots : List (Option T)) → k.lane ≡ 0 → ((l : ℕ) → Has k.splits l → Has k.ended l)
       → Final (Seen (Kept r key) id (Sits (record k { stage = Rests }))) words slots → (x : T) × (get_elem? slots 0 ≡ some (Some x)) × Closes k x
@@ -337,7 +344,8 @@ module _ {T E O H : Type 0} (r : Log T E O H) (key : T) where
       let d = q.apart id t.0 old t.1 at t.2 (λ e. n (sym e)) in
       let o = (q.each t.0 t.1 t.2).other (λ e. d.0 (first ∙ sym e)) in
       absurd (o.1 (subst (λ (w : List ℕ). Has w t.1.lane) lists.1 (all_joined t.1.lane (subst (λ (w : List ℕ). Has w t.1.lane) (sym lists.0) o.0)))))) q.home in
-      let unsplit : (l : ℕ) → l ≢ 0 → ¬ Has k.splits l → Alike r l key q.cur = (λ l n h. (q.unsplit l n (λ (g : Has q.splits l). h (subst (λ (w : List ℕ). Has w l) (sym lists.0) g))).0) in
+      let whole : (l : ℕ) → l ≢ 0 → ¬ Has k.splits l → Alike r l key q.cur × (r.held l key ≡ r.held l q.cur) = (λ l n h. q.unsplit l n (λ (g : Has q.splits l). h (subst (λ (w : List ℕ). Has w l) (sym lists.0) g))) in
+      let unsplit : (l : ℕ) → l ≢ 0 → ¬ Has k.splits l → Alike r l key q.cur = (λ l n h. (whole l n h).0) in
       let alike : (l : ℕ) → Alike r l k.seen q.cur = (λ l. dite (ℕ_discrete l 0)
       (λ (e : l ≡ 0). subst (λ (w : ℕ). Alike r w k.seen q.cur) (first ∙ sym e) ok.own)
       (λ (n : l ≢ 0). dite (whether k.splits l)
@@ -351,6 +359,8 @@ module _ {T E O H : Type 0} (r : Log T E O H) (key : T) where
           since = subst (λ (w : T). Grows r w q.cur) (sym ok.made) q.grown;
           unsplit = λ l n h. subst (λ (w : T). Alike r l w q.cur) (sym ok.made) (unsplit l n h);
           kept = subst (λ (w : ℕ). r.held w q.cur ≡ r.held k.lane k.kept) first (sym ok.kept);
+          remains = all_of (EndedWith r q.ended q.cur) (Remains r q.cur) k.remains (λ p h. h.1) (ok.remains first);
+          untouched = λ l n h. ap (r.held l) ok.made ∙ (whole l n h).1;
         },
       )
 
@@ -365,6 +375,7 @@ module _ {T E O H : Type 0} (r : Log T E O H) (key : T) where
   same_start zero v e = sym (some-injective key v e)
   same_start (suc i) v e = absurd (some-ne-none v (sym e))
 
-  pub starts_with : (value : T) (slots : List (Option T)) → key ≡ value → slots ≡ Some value ∷ [] → Kept r key (opening (0 ∷ 0 ∷ 0 ∷ []) slots (starting key))
-  starts_with value slots same is =
-      subst (λ (w : List (Option T)). Kept r key (opening (0 ∷ 0 ∷ 0 ∷ []) w (starting key))) (sym (is ∙ ap (λ (w : T). Some w ∷ []) (sym same))) starts
+  pub starts_with : (value : T) (words : List ℕ) (slots : List (Option T)) (n : ℕ) → 1 < length words → n < 2 ^ 64 → get_or words 0 0 ≡ n → get_or words 1 0 ≡ n → key ≡ value → slots ≡ Some value ∷ []
+      → Kept r key (opening words slots (starting key))
+  starts_with value words slots n long small ticket serving same is =
+      subst (λ (w : List (Option T)). Kept r key (opening words w (starting key))) (sym (is ∙ ap (λ (w : T). Some w ∷ []) (sym same))) (starts words n long small ticket serving)

@@ -12,14 +12,14 @@ use Rattle.atomic_table.specs.Table.{State, step, keeps, takes, gives, Allows}
 use Rattle.atomic_table.proofs.Lists.{at_set, set_here, set_else, set_again, one_turn}
 use Rattle.turn_lock.specs.Entries.{entries_by}
 use Rattle.turn_lock.specs.Sitting.{Has}
-use Rattle.turn_lock.specs.Rule.{Log, Grows, Alike, Kept, SeatOk, StageOk, Differ, HasTurn, IsHolder, turns, knows_or}
-use Rattle.turn_lock.specs.Steps.{took, heard, rang, served, Finds, looked}
+use Rattle.turn_lock.specs.Rule.{Log, Grows, Alike, TakesTurn, Unsplit, Remains, EndedWith, Kept, SeatOk, StageOk, Differ, HasTurn, IsHolder, turns, knows_or}
+use Rattle.turn_lock.specs.Steps.{took, Sat, served, Finds, looked}
 use Rattle.turn_lock.specs.declared.board.Stage.{Stage}
 use Rattle.turn_lock.specs.declared.board.Stage.TheVariants.{Rests, Waits, Holds, Names, Joined}
 use Rattle.turn_lock.specs.declared.board.Knows.{Knows}
 use Rattle.turn_lock.specs.declared.board.View.{View}
 use Rattle.turn_lock.specs.declared.board.View.TheVariants.{Sits}
-use Rattle.turn_lock.proofs.Lists.{begins_itself, begins_on, begins_with, another's, turns_set, turns_few, few_lanes}
+use Rattle.turn_lock.proofs.Lists.{begins_itself, begins_on, begins_with, between, another's, all_of, turns_set, turns_few, few_lanes}
 
 pub at_below : {A : Type 0} (xs : List A) (i : ℕ) (a : A) → get_elem? xs i ≡ some a → i < length xs
 at_below [] i a e = absurd (some-ne-none a (sym e))
@@ -53,9 +53,6 @@ module _ {T E O H : Type 0} (r : Log T E O H) (key : T) where
   abbrev St : Type 0
   St = State (Option T) (View T)
 
-  Unsplit : T → List ℕ → Type 0
-  Unsplit cur splits = (l : ℕ) → l ≢ 0 → ¬ Has splits l → Alike r l key cur × (r.held l key ≡ r.held l cur)
-
   widen : (cur : T) (served out out' : ℕ) (k : Knows T) (st : Stage T) → out ≤ out' → StageOk r cur served out k st → StageOk r cur served out' k st
   widen cur served out out' k Rests le ok = ok
   widen cur served out out' k (Waits t) le ok = let a = ok.1 in (ok.0, omega arith)
@@ -81,13 +78,14 @@ module _ {T E O H : Type 0} (r : Log T E O H) (key : T) where
     first = ok.first;
     other = ok.other;
     gone = ok.gone;
+    remains = ok.remains;
     stage = widen cur served out out' k k.stage le ok.stage;
   }
 
   -- the same seat at another stage
-  pub restaged : (cur : T) (served out out' : ℕ) (splits ended : List ℕ) (k : Knows T) (h : ℕ) (st : Stage T) → StageOk r cur served out' (record k { heard = h; stage = st }) st
-      → SeatOk r key cur served out splits ended k → SeatOk r key cur served out' splits ended (record k { heard = h; stage = st })
-  restaged cur served out out' splits ended k h st here ok = record {
+  pub restaged : (cur : T) (served out out' : ℕ) (splits ended : List ℕ) (k : Knows T) (st : Stage T) → StageOk r cur served out' (record k { stage = st }) st
+      → SeatOk r key cur served out splits ended k → SeatOk r key cur served out' splits ended (record k { stage = st })
+  restaged cur served out out' splits ended k st here ok = record {
     made = ok.made;
     since = ok.since;
     seen = ok.seen;
@@ -96,13 +94,14 @@ module _ {T E O H : Type 0} (r : Log T E O H) (key : T) where
     first = ok.first;
     other = ok.other;
     gone = ok.gone;
+    remains = ok.remains;
     stage = here;
   }
 
   -- one seat moves, and the value, the words and the slot may change
-  pub moved : (s : St) (q : Kept r key s) (id : ℕ) (k' : Knows T) (words' : List ℕ) (homes' : List (maybe.Option (Option T))) (cur' : T) (served' rings' : ℕ)
-      → length words' ≡ 3 → length homes' ≡ 1
-      → get_or words' 0 0 ≡ (served' + turns (set s.views id (Sits k'))) % 2 ^ 64 → get_or words' 1 0 ≡ served' % 2 ^ 64 → get_or words' 2 0 ≡ rings' % 2 ^ 64 → q.rings ≤ rings' → k'.heard ≤ rings'
+  pub moved : (s : St) (q : Kept r key s) (id : ℕ) (k' : Knows T) (words' : List ℕ) (homes' : List (maybe.Option (Option T))) (cur' : T) (served' : ℕ)
+      → length words' ≡ length s.words → length homes' ≡ 1
+      → get_or words' 0 0 ≡ (served' + turns (set s.views id (Sits k'))) % 2 ^ 64 → get_or words' 1 0 ≡ served' % 2 ^ 64
       → r.origin cur' ≡ r.origin key → Grows r key cur'
       → SeatOk r key cur' served' (turns (set s.views id (Sits k'))) q.splits q.ended k'
       → ((j : ℕ) (m : Knows T) → j ≢ id → get_elem? s.views j ≡ some (Sits m) → SeatOk r key cur' served' (turns (set s.views id (Sits k'))) q.splits q.ended m)
@@ -110,17 +109,14 @@ module _ {T E O H : Type 0} (r : Log T E O H) (key : T) where
       → ((l : ℕ) → l ≢ 0 → ¬ Has q.splits l → Alike r l key cur' × (r.held l key ≡ r.held l cur'))
       → ((get_elem? homes' 0 ≡ some (some (Some cur'))) ⊎ ((i : ℕ) × (m : Knows T) × (get_elem? (set s.views id (Sits k')) i ≡ some (Sits m)) × IsHolder m.stage))
       → Kept r key record { words = words'; homes = homes'; views = set s.views id (Sits k') }
-  moved s q id k' words' homes' cur' served' rings' wide deep ticket serving bell more hears_it origin grown mine others differ unsplit home = record {
+  moved s q id k' words' homes' cur' served' wide deep ticket serving origin grown mine others differ unsplit home = record {
     cur = cur';
     served = served';
     splits = q.splits;
     ended = q.ended;
-    sizes = (wide, deep);
+    sizes = (omega (arith, wide, q.sizes.0), deep);
     ticket = ticket;
     serving = serving;
-    rings = rings';
-    bell = bell;
-    heard = each_seat key (λ z. z.heard ≤ rings') s.views id k' hears_it (λ j m ne atj. let h = q.heard j m atj in omega arith);
     origin = origin;
     grown = grown;
     few = length-set s.views id (Sits k') ∙ q.few;
@@ -168,12 +164,11 @@ module _ {T E O H : Type 0} (r : Log T E O H) (key : T) where
         Sits k',
         keeps,
         tt,
-        moved s q id k' (set s.words 0 ((get_or s.words 0 0 + 1) % 2 ^ 64)) s.homes q.cur q.served q.rings (length-set s.words 0 _ ∙ q.sizes.0) q.sizes.1
+        moved s q id k' (set s.words 0 ((get_or s.words 0 0 + 1) % 2 ^ 64)) s.homes q.cur q.served (length-set s.words 0 _) q.sizes.1
             (get_or-set_same s.words 0 _ 0 (omega (arith, q.sizes.0)) ∙ word)
             (get_or-set_other s.words 0 1 _ 0 (λ e. omega arith) ∙ q.serving)
-            (get_or-set_other s.words 0 2 _ 0 (λ e. omega arith) ∙ q.bell) (omega arith) (q.heard id old at)
             q.origin q.grown
-            (restaged q.cur q.served (turns s.views) (turns (set s.views id (Sits k'))) q.splits q.ended old k.heard (Waits t) (omega arith, omega arith) ok)
+            (restaged q.cur q.served (turns s.views) (turns (set s.views id (Sits k'))) q.splits q.ended old (Waits t) (omega arith, omega arith) ok)
             (λ j m ne atj. regard q.cur q.served (turns s.views) (turns (set s.views id (Sits k'))) q.splits q.ended m (omega arith) (q.each j m atj))
             (λ j m ne atj. let d = q.apart id j old m at atj (λ e. ne (sym e)) in (d.0, λ u a b. let w = within q.cur q.served (turns s.views) m m.stage u (q.each j m atj).stage b in omega (arith, w.1)))
             q.unsplit
@@ -185,15 +180,29 @@ module _ {T E O H : Type 0} (r : Log T E O H) (key : T) where
   pub same_turn : (k k' m : Knows T) → k'.lane ≡ k.lane → ((u : ℕ) → HasTurn k'.stage u → HasTurn k.stage u) → Differ k m → Differ k' m
   same_turn k k' m lane turn d = ((λ e. d.0 (sym lane ∙ e)), (λ u a b. d.1 u (turn u a) b))
 
+  -- a lane that the first seat has not split off has not been split off
+  not_split : (s : St) (q : Kept r key s) (id : ℕ) (k : Knows T) → get_elem? s.views id ≡ some (Sits k) → k.lane ≡ 0 → (l : ℕ) → ¬ Has k.splits l → ¬ Has q.splits l
+  not_split s q id k at first l h g = h (subst (λ (z : List ℕ). Has z l) (sym ((q.each id k at).first first).0) g)
+
+  -- what a seat has seen has no entry of a lane that was not split off but those at make
+  pub knows_unsplit : (s : St) (q : Kept r key s) (id : ℕ) (k : Knows T) → get_elem? s.views id ≡ some (Sits k) → Unsplit r k k.seen
+  knows_unsplit s q id k at first l apart h =
+      let ok = q.each id k at in
+      let far : Alike r l key q.cur = (q.unsplit l apart (not_split s q id k at first l h)).0 in
+      let near : Alike r l k.seen q.cur = between r.by l (r.entries key) (r.entries k.seen) (r.entries q.cur) ok.since ok.seen far in
+      subst (λ (z : T). Alike r l z k.seen) (sym ok.made) (far ∙ sym near)
+
   finds : (s : St) (q : Kept r key s) (id : ℕ) (k : Knows T) → get_elem? s.views id ≡ some (Sits k) → Finds r k q.cur
-  finds s q id k at = let ok = q.each id k at in record {
+  finds s q id k at = let ok = q.each id k at in let out = not_split s q id k at in record {
     since = subst (λ (z : T). Grows r z q.cur) (sym ok.made) q.grown;
     origin = q.origin ∙ ap r.origin (sym ok.made);
     seen = ok.seen;
     own = ok.own;
     kept = sym ok.kept;
     ended = λ first l h. ok.gone first l (subst (λ (z : List ℕ). Has z l) (ok.first first).1 h);
-    unsplit = λ first l apart h. subst (λ (z : T). Alike r l z q.cur) (sym ok.made) (q.unsplit l apart (λ (g : Has q.splits l). h (subst (λ (z : List ℕ). Has z l) (sym (ok.first first).0) g))).0;
+    remains = λ first. all_of (EndedWith r q.ended q.cur) (Remains r q.cur) k.remains (λ p h. h.1) (ok.remains first);
+    unsplit = λ first l apart h. subst (λ (z : T). Alike r l z q.cur) (sym ok.made) (q.unsplit l apart (out first l h)).0;
+    untouched = λ first l apart h. ap (r.held l) ok.made ∙ (q.unsplit l apart (out first l h)).1;
   }
 
   -- the seat of the turn that is served takes the value out
@@ -209,9 +218,9 @@ module _ {T E O H : Type 0} (r : Log T E O H) (key : T) where
       let low = ok.stage.0 in
       let high = ok.stage.1 in
       subst (λ (w : List ℕ). Kept r key record { words = w; homes = set s.homes 0 none; views = set s.views id (Sits k') }) (sym (set-get_or s.words 1 0))
-      (moved s q id k' s.words (set s.homes 0 none) q.cur q.served q.rings q.sizes.0 (length-set s.homes 0 none ∙ q.sizes.1)
-      (q.ticket ∙ ap (λ (n : ℕ). (q.served + n) % 2 ^ 64) (sym out)) q.serving q.bell (omega arith) (q.heard id old at) q.origin q.grown
-      (restaged q.cur q.served (turns s.views) (turns (set s.views id (Sits k'))) q.splits q.ended old k.heard (Holds t q.cur) (now, omega arith, refl) ok)
+      (moved s q id k' s.words (set s.homes 0 none) q.cur q.served refl (length-set s.homes 0 none ∙ q.sizes.1)
+      (q.ticket ∙ ap (λ (n : ℕ). (q.served + n) % 2 ^ 64) (sym out)) q.serving q.origin q.grown
+      (restaged q.cur q.served (turns s.views) (turns (set s.views id (Sits k'))) q.splits q.ended old (Holds t q.cur) (now, omega arith, refl) ok)
       (λ j m ne atj. regard q.cur q.served (turns s.views) (turns (set s.views id (Sits k'))) q.splits q.ended m (omega arith) (q.each j m atj))
       (λ j m ne atj. same_turn old k' m refl (λ u h. h) (q.apart id j old m at atj (λ e. ne (sym e))))
       q.unsplit
@@ -276,10 +285,6 @@ module _ {T E O H : Type 0} (r : Log T E O H) (key : T) where
   adds_alike lane l x y (inl e) other = ap (entries_by r.by l) (sym e)
   adds_alike lane l x y (inr (e, by, is)) other = sym (ap (entries_by r.by l) is ∙ another's r.by l (r.entries x) e (λ h. other (sym h ∙ by)))
 
-  -- what a turn has to leave
-  abbrev pub IsNext : ℕ → T → T → Type 0
-  IsNext lane x y = Adds lane x y × (r.origin y ≡ r.origin x) × ((l : ℕ) → l ≢ lane → r.held l y ≡ r.held l x)
-
   next_stage : (cur y : T) (served out out' : ℕ) (m : Knows T) (st : Stage T) → out' + 1 ≡ out → ¬ HasTurn st served → StageOk r cur served out m st → StageOk r y (served + 1) out' m st
   next_stage cur y served out out' m Rests one other ok = ok
   next_stage cur y served out out' m (Waits u) one other ok = let a = ok.0 in let b = ok.1 in let ne : u ≢ served = other in (omega arith, omega arith)
@@ -288,17 +293,18 @@ module _ {T E O H : Type 0} (r : Log T E O H) (key : T) where
   next_stage cur y served out out' m (Joined a b l) one other ok = ok
 
   -- another seat, where the seat of `lane` has left y
-  others_next : (cur y : T) (served out out' : ℕ) (splits ended : List ℕ) (lane : ℕ) (m : Knows T) → IsNext lane cur y → out' + 1 ≡ out → ¬ HasTurn m.stage served → m.lane ≢ lane
+  others_next : (cur y : T) (served out out' : ℕ) (splits ended : List ℕ) (lane : ℕ) (m : Knows T) → TakesTurn r lane cur y → out' + 1 ≡ out → ¬ HasTurn m.stage served → m.lane ≢ lane
       → (m.lane ≡ 0 → ¬ Has ended lane) → SeatOk r key cur served out splits ended m → SeatOk r key y (served + 1) out' splits ended m
   others_next cur y served out out' splits ended lane m next one turn apart live ok = record {
     made = ok.made;
     since = ok.since;
-    seen = begins_on (r.entries m.seen) (r.entries cur) (r.entries y) ok.seen (adds_grow lane cur y next.0);
-    own = ok.own ∙ adds_alike lane m.lane cur y next.0 apart;
-    kept = ok.kept ∙ sym (next.2 m.lane apart);
+    seen = begins_on (r.entries m.seen) (r.entries cur) (r.entries y) ok.seen (adds_grow lane cur y next.list);
+    own = ok.own ∙ adds_alike lane m.lane cur y next.list apart;
+    kept = ok.kept ∙ sym (next.others m.lane apart);
     first = ok.first;
     other = ok.other;
-    gone = λ first l h. ok.gone first l h ∙ adds_alike lane l cur y next.0 (λ e. live first (subst (Has ended) e h));
+    gone = λ first l h. ok.gone first l h ∙ adds_alike lane l cur y next.list (λ e. live first (subst (Has ended) e h));
+    remains = λ first. all_of (EndedWith r ended cur) (EndedWith r ended y) m.remains (λ p h. (h.0, h.1 ∙ sym (next.others p.0 (λ e. live first (subst (Has ended) e h.0))))) (ok.remains first);
     stage = next_stage cur y served out out' m m.stage one turn ok.stage;
   }
 
@@ -307,7 +313,7 @@ module _ {T E O H : Type 0} (r : Log T E O H) (key : T) where
   value_or d ((n, Some y) ∷ xs) = y
   value_or d ((n, None) ∷ xs) = d
 
-  leaves : (s : St) (q : Kept r key s) (id : ℕ) (k : Knows T) (t : ℕ) (y : T) → get_elem? s.views id ≡ some (Sits (record k { stage = Holds t q.cur })) → t ≡ q.served → IsNext k.lane q.cur y
+  leaves : (s : St) (q : Kept r key s) (id : ℕ) (k : Knows T) (t : ℕ) (y : T) → get_elem? s.views id ≡ some (Sits (record k { stage = Holds t q.cur })) → t ≡ q.served → TakesTurn r k.lane q.cur y
       → Kept r key record { words = set s.words 1 ((get_or s.words 1 0 + 1) % 2 ^ 64); homes = set s.homes 0 (some (Some y)); views = set s.views id (Sits (record k { seen = y; kept = y; stage = Rests })) }
   leaves s q id k t y at now next =
       let old : Knows T = record k { stage = Holds t q.cur } in
@@ -315,14 +321,13 @@ module _ {T E O H : Type 0} (r : Log T E O H) (key : T) where
       let less = turns_set s.views id (Sits old) (Sits k') at in
       let one : turns (set s.views id (Sits k')) + 1 ≡ turns s.views = omega arith in
       let ok = q.each id old at in
-      let grow = adds_grow k.lane q.cur y next.0 in
+      let grow = adds_grow k.lane q.cur y next.list in
       let sum : q.served + turns s.views ≡ (q.served + 1) + turns (set s.views id (Sits k')) = omega arith in
-      moved s q id k' (set s.words 1 ((get_or s.words 1 0 + 1) % 2 ^ 64)) (set s.homes 0 (some (Some y))) y (q.served + 1) q.rings
-      (length-set s.words 1 _ ∙ q.sizes.0) (length-set s.homes 0 _ ∙ q.sizes.1)
+      moved s q id k' (set s.words 1 ((get_or s.words 1 0 + 1) % 2 ^ 64)) (set s.homes 0 (some (Some y))) y (q.served + 1)
+      (length-set s.words 1 _) (length-set s.homes 0 _ ∙ q.sizes.1)
       (get_or-set_other s.words 1 0 _ 0 (λ e. omega arith) ∙ (q.ticket ∙ ap (λ (n : ℕ). n % 2 ^ 64) sum))
       (get_or-set_same s.words 1 _ 0 (omega (arith, q.sizes.0)) ∙ (ap (λ (n : ℕ). (n + 1) % 2 ^ 64) q.serving ∙ mod-add-mod q.served (2 ^ 64) 1))
-      (get_or-set_other s.words 1 2 _ 0 (λ e. omega arith) ∙ q.bell) (omega arith) (q.heard id old at)
-      (next.1 ∙ q.origin)
+      (next.origin ∙ q.origin)
       (begins_on (r.entries key) (r.entries q.cur) (r.entries y) q.grown grow)
       (record {
         made = ok.made;
@@ -333,6 +338,7 @@ module _ {T E O H : Type 0} (r : Log T E O H) (key : T) where
         first = ok.first;
         other = ok.other;
         gone = λ first l h. refl;
+        remains = λ first. all_of (EndedWith r q.ended q.cur) (EndedWith r q.ended y) k.remains (λ p h. (h.0, h.1 ∙ sym (next.others p.0 (λ e. (q.were p.0 h.0).1 (e ∙ first))))) (ok.remains first);
         stage = tt;
       })
       (λ j m ne atj. let d = q.apart id j old m at atj (λ e. ne (sym e)) in
@@ -341,10 +347,10 @@ module _ {T E O H : Type 0} (r : Log T E O H) (key : T) where
       (λ j m ne atj. ((q.apart id j old m at atj (λ e. ne (sym e))).0, (λ u a b. a)))
       (λ l apart h. let u = q.unsplit l apart h in
       let other : l ≢ k.lane = (λ e. h (subst (Has q.splits) (sym e) (ok.other (λ z. apart (e ∙ z))).0)) in
-      (u.0 ∙ adds_alike k.lane l q.cur y next.0 other, u.1 ∙ sym (next.2 l other)))
+      (u.0 ∙ adds_alike k.lane l q.cur y next.list other, u.1 ∙ sym (next.others l other)))
       (inl (set_here s.homes 0 (some (Some y)) (omega (arith, q.sizes.1))))
 
-  pub serves : (slots id : ℕ) (k : Knows T) (t : ℕ) (x y : T) → IsNext k.lane x y
+  pub serves : (slots id : ℕ) (k : Knows T) (t : ℕ) (x y : T) → TakesTurn r k.lane x y
       → Allows (Kept r key) slots id (Sits (record k { stage = Holds t x }), (0, Some y) ∷ []) 1 (λ n. (n + 1) % 2 ^ 64) (served r (step slots 1 1 0 none) (Sits (record k { stage = Holds t x }), (0, Some y) ∷ []))
   unfolding value_or
   serves slots id k t x y next s q deep at fits =
@@ -353,48 +359,36 @@ module _ {T E O H : Type 0} (r : Log T E O H) (key : T) where
         Sits (record k { seen = y; kept = y; stage = Rests }),
         gives,
         tt,
-        leaves s q id k t y (subst (λ (z : T). get_elem? s.views id ≡ some (Sits (record k { stage = Holds t z }))) is at) ok.stage.0 (subst (λ (z : T). IsNext k.lane z y) is next),
+        leaves s q id k t y (subst (λ (z : T). get_elem? s.views id ≡ some (Sits (record k { stage = Holds t z }))) is at) ok.stage.0 (subst (λ (z : T). TakesTurn r k.lane z y) is next),
         (
           (λ z e. let same : y ≡ z = ap (value_or y) e in ap (λ (w : T). (Sits (record k { seen = w; kept = w; stage = Rests }), [])) same),
           subst (Finds r (record k { stage = Holds t x })) (sym is) (finds s q id (record k { stage = Holds t x }) at),
         ),
       )
 
-  -- a seat hears of the bell, which may ring
-  hearkens : (s : St) (q : Kept r key s) (id h : ℕ) (k : Knows T) (words' : List ℕ) → get_elem? s.views id ≡ some (Sits (record k { stage = Rests })) → length words' ≡ 3
-      → get_or words' 0 0 ≡ get_or s.words 0 0 → get_or words' 1 0 ≡ get_or s.words 1 0 → get_or words' 2 0 ≡ h % 2 ^ 64 → q.rings ≤ h
-      → Kept r key record { words = words'; homes = s.homes; views = set s.views id (Sits (record k { heard = h; stage = Rests })) }
-  hearkens s q id h k words' at wide ticket serving bell more =
-      let old : Knows T = record k { stage = Rests } in
-      let k' : Knows T = record k { heard = h; stage = Rests } in
-      let same = turns_set s.views id (Sits old) (Sits k') at in
-      let out : turns (set s.views id (Sits k')) ≡ turns s.views = omega arith in
-      moved s q id k' words' s.homes q.cur q.served h wide q.sizes.1
-      (ticket ∙ (q.ticket ∙ ap (λ (n : ℕ). (q.served + n) % 2 ^ 64) (sym out))) (serving ∙ q.serving) bell more (omega arith) q.origin q.grown
-      (restaged q.cur q.served (turns s.views) (turns (set s.views id (Sits k'))) q.splits q.ended old h Rests tt (q.each id old at))
-      (λ j m ne atj. regard q.cur q.served (turns s.views) (turns (set s.views id (Sits k'))) q.splits q.ended m (omega arith) (q.each j m atj))
-      (λ j m ne atj. same_turn old k' m refl (λ u a. a) (q.apart id j old m at atj (λ e. ne (sym e))))
-      q.unsplit
-      (at_home s q.cur id old k' at (λ a. a) q.home)
-
-  pub hears : (slots id : ℕ) (k : Knows T) → Allows (Kept r key) slots id (Sits (record k { stage = Rests }), []) 2 (λ n. n) (heard (step slots 2 0 0 none) (Sits (record k { stage = Rests }), []))
-  hears slots id k s q deep at fits = (
-    Sits (record k { heard = q.rings; stage = Rests }),
+  -- a step on a word behind the first two
+  pub stirs : (slots id : ℕ) (me : Sat T) (i : ℕ) (f : ℕ → ℕ) → 1 < i → Allows (Kept r key) slots id me i f (λ n m'. m' ≡ me)
+  stirs slots id me i f behind s q deep at fits = (
+    me.0,
     keeps,
     tt,
-    subst (λ (w : List ℕ). Kept r key record { words = w; homes = s.homes; views = set s.views id (Sits (record k { heard = q.rings; stage = Rests })) }) (sym (set-get_or s.words 2 0))
-        (hearkens s q id q.rings k s.words at q.sizes.0 refl refl q.bell (omega arith)),
-    (q.rings, sym q.bell, q.heard id (record k { stage = Rests }) at, refl),
+    subst (λ (z : List (View T)). Kept r key record { words = set s.words i (f (get_or s.words i 0)); homes = s.homes; views = z }) (sym (set_again s.views id me.0 at)) record {
+      cur = q.cur;
+      served = q.served;
+      splits = q.splits;
+      ended = q.ended;
+      sizes = (omega (arith, length-set s.words i (f (get_or s.words i 0)), q.sizes.0), q.sizes.1);
+      ticket = get_or-set_other s.words i 0 (f (get_or s.words i 0)) 0 (λ e. omega arith) ∙ q.ticket;
+      serving = get_or-set_other s.words i 1 (f (get_or s.words i 0)) 0 (λ e. omega arith) ∙ q.serving;
+      origin = q.origin;
+      grown = q.grown;
+      few = q.few;
+      lanes = q.lanes;
+      were = q.were;
+      each = q.each;
+      apart = q.apart;
+      unsplit = q.unsplit;
+      home = q.home;
+    },
+    refl,
   )
-
-  pub rings : (slots id : ℕ) (k : Knows T) → Allows (Kept r key) slots id (Sits (record k { stage = Rests }), []) 2 (λ n. (n + 1) % 2 ^ 64) (rang (step slots 2 1 0 none) (Sits (record k { stage = Rests }), []))
-  rings slots id k s q deep at fits =
-      let had = q.heard id (record k { stage = Rests }) at in (
-        Sits (record k { heard = q.rings + 1; stage = Rests }),
-        keeps,
-        tt,
-        hearkens s q id (q.rings + 1) k (set s.words 2 ((get_or s.words 2 0 + 1) % 2 ^ 64)) at (length-set s.words 2 _ ∙ q.sizes.0)
-            (get_or-set_other s.words 2 0 _ 0 (λ e. omega arith)) (get_or-set_other s.words 2 1 _ 0 (λ e. omega arith))
-            (get_or-set_same s.words 2 _ 0 (omega (arith, q.sizes.0)) ∙ (ap (λ (n : ℕ). (n + 1) % 2 ^ 64) q.bell ∙ mod-add-mod q.rings (2 ^ 64) 1)) (omega arith),
-        (q.rings + 1, omega arith, refl),
-      )

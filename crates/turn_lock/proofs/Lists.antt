@@ -3,7 +3,8 @@ use Rattle.std.proofs.Common.{◌≡◌, ◌≢◌, ◌⊎◌, ℕ, zero, suc, �
 use Rattle.std.specs.Prelude.{if◌then◌else◌, ◌||◌}
 use mathlib.Core.Logic.{dite}
 use native.Mathlib.Decide.{ℕ_discrete}
-use Rattle.std.specs.List.{IsDistinct, AllByRecursion, list_any}
+use Rattle.std.specs.List.{All, IsDistinct, AllByRecursion, list_any}
+use Rattle.std.proofs.lemmas.List.Elements.{All-nil, All-cons, All-head, All-tail}
 use Rattle.std.proofs.lemmas.Map.Steps.{length-le_from_distinct_below}
 use mathlib.Core.Option.{some, some-injective, some-ne-none}
 use mathlib.Core.List.{IsPrefix, append-nil}
@@ -23,6 +24,11 @@ module _ {A : Type 0} where
   tail : List A → List A
   tail [] = []
   tail (x ∷ xs) = xs
+
+  -- what is so of each element, and gives something else, is so
+  pub all_of : (P Q : A → Type 0) (xs : List A) → ((x : A) → P x → Q x) → All P xs → All Q xs
+  all_of P Q [] f h = All-nil Q
+  all_of P Q (x ∷ xs) f h = All-cons Q x xs (f x (All-head P x xs h)) (all_of P Q xs f (All-tail P x xs h))
 
   pub begins_itself : (xs : List A) → IsPrefix xs xs
   begins_itself xs = ([], append-nil xs)
@@ -72,6 +78,20 @@ module _ {E : Type 0} (by : E → ℕ) (lane : ℕ) where
       after_append 0 xs (e ∷ [])
       ∙ (ap (λ (b : Bool). entries_by by lane xs ++ ((if b then (0 + length xs + 1, e) ∷ [] else []) ++ [])) (eq-eqb (by e) lane is)
       ∙ ap (λ (n : ℕ). entries_by by lane xs ++ (n, e) ∷ []) z)
+
+  -- where the lane has the same entries in a list as in a beginning of it, only other lanes' entries stand behind that
+  pub others_follow : (xs more : List E) → entries_by by lane xs ≡ entries_by by lane (xs ++ more) → All (λ e. by e ≢ lane) more
+  others_follow xs more same = go (0 + length xs) more (nothing_more (entries_by by lane xs) (entries_after by lane (0 + length xs) more) (entries_by by lane (xs ++ more)) (sym (after_append 0 xs more)) (omega (arith, ap length same)))
+    where
+      go : (n : ℕ) (es : List E) → entries_after by lane n es ≡ [] → All (λ e. by e ≢ lane) es
+      go n [] none = All-nil (λ e. by e ≢ lane)
+      go n (e ∷ es) none = dite (ℕ_discrete (by e) lane)
+          (λ (is : by e ≡ lane). absurd (omega (arith, ap length (sym (ap (λ (b : Bool). (if b then (n + 1, e) ∷ [] else []) ++ entries_after by lane (n + 1) es) (eq-eqb (by e) lane is)) ∙ none))))
+          (λ (ne : by e ≢ lane). All-cons (λ e. by e ≢ lane) e es ne
+          (go (n + 1) es (sym (ap (λ (b : Bool). (if b then (n + 1, e) ∷ [] else []) ++ entries_after by lane (n + 1) es) (ne_eqb (by e) lane ne)) ∙ none)))
+
+  pub others_behind : (xs ys more : List E) → entries_by by lane ys ≡ entries_by by lane xs → ys ≡ xs ++ more → All (λ e. by e ≢ lane) more
+  others_behind xs ys more same is = others_follow xs more (sym same ∙ ap (entries_by by lane) is)
 
 -- where each lane has the same entries in a list as in a beginning of it, that is the whole list
 pub all_alike : {E : Type 0} (by : E → ℕ) (xs ys : List E) → IsPrefix xs ys → ((lane : ℕ) → entries_by by lane xs ≡ entries_by by lane ys) → xs ≡ ys

@@ -1,18 +1,19 @@
 -- What the calls of the lock get from the steps.
 use Rattle.std.proofs.Common.{◌≡◌, ◌≢◌, ℕ, ◌+◌, ◌%◌, ◌^◌, ◌<◌, eqb, length, List, [], ◌∷◌, ◌++◌, sym, refl, ap, ◌∙◌, subst, Option, Some, None}
+use Rattle.std.specs.List.{All}
 use mathlib.Core.Option.{none, some, some-injective}
 use Rattle.atomic_table.specs.Table.{step, Allows, Splits, Joins, Final, Seen, rest}
 use Rattle.atomic_table.specs.Seated.{TableId}
 use Rattle.turn_lock.specs.Sitting.{Lock, Sitting, Turning, mine, Has}
-use Rattle.turn_lock.specs.Rule.{Log, Grows, Alike, Kept, knows_or, sat, sitting, Rested, Turned, turn_or, start_or}
-use Rattle.turn_lock.specs.Steps.{heard, rang, Sat, ticket_of, settled, took, served, Finds, came, looked, IsWaiting, IsOut, named, split_left, split_right, longer, joined, told}
+use Rattle.turn_lock.specs.Rule.{Log, Grows, Alike, TakesTurn, Remains, Kept, knows_or, sat, sitting, Rested, Turned, turn_or, start_or}
+use Rattle.turn_lock.specs.Steps.{Sat, ticket_of, settled, took, served, Finds, came, looked, IsWaiting, IsOut, IsUnsplit, named, split_left, split_right, longer, joined, told}
 use Rattle.turn_lock.specs.declared.board.Stage.TheVariants.{Rests, Holds, Names, Joined}
 use Rattle.turn_lock.specs.declared.board.Knows.{Knows}
 use Rattle.turn_lock.specs.declared.board.View.{View}
 use Rattle.turn_lock.specs.declared.board.View.TheVariants.{Spent, Sits}
 use Rattle.turn_lock.specs.Entries.{entries_by}
 use Rattle.turn_lock.proofs.Lists.{begins_on, one_more}
-use Rattle.turn_lock.proofs.Keeps.{takes_ticket, looks, serves, hears, rings, IsNext, adds_grow, adds_alike}
+use Rattle.turn_lock.proofs.Keeps.{takes_ticket, looks, serves, adds_grow, adds_alike}
 use Rattle.turn_lock.proofs.Ends.{names, splits, merges, tells, closes}
 use lib.ListN.{get_elem?}
 use prog.Atomic.{either}
@@ -40,8 +41,9 @@ module _ {T : Type 0} where
       ap (λ (w : TableId × View T). sitting w.0 z d w.1) (λ i. (same i, (ap (λ (m : Sat T). m.0) is) i))
       ∙ ap (λ (k : Knows T). record (sat (record { board = b; stamps = z }) k) { seen = y; kept = y }) (sym (ap (λ (m : Sat T). knows_or d m.0) turned))
 
-  pub named_is : (lane : ℕ) (d : T) (me me' : Sat T) (n : ℕ) → Rested d me → named (step 1 0 lane lane none) me n me' → me' ≡ (Sits (record (resting d me) { stage = Names lane }), [])
-  named_is lane d me me' n rested h = subst (λ (m : Sat T). named (step 1 0 lane lane none) m n me') rested h
+-- what the seat has seen has no entry of a lane that was not split off but those at make
+abbrev pub UnsplitFor : {T E O H : Type 0} → Log T E O H → Sitting T → Type 0
+UnsplitFor r v = v.lane ≡ 0 → (l : ℕ) → l ≢ 0 → ¬ Has v.splits l → Alike r l v.made v.seen
 
 module _ {T E O H : Type 0} (r : Log T E O H) (key : T) where
   pub entering : (slots id : ℕ) (d : T) (me : Sat T) → Rested d me → Allows (Kept r key) slots id me 0 (λ n. (n + 1) % 2 ^ 64) (took (step slots 0 1 0 none) me)
@@ -58,7 +60,7 @@ module _ {T E O H : Type 0} (r : Log T E O H) (key : T) where
   it_came me me' n number w l e = l.0 (e ∙ sym (ap (λ (m : Sat T). ticket_of m.0 % 2 ^ 64) w.2 ∙ w.3))
 
   pub leaving : (slots id : ℕ) (d : T) (me me' : Sat T) (y : T) → Turned d me → me' ≡ (me.0, (0, Some y) ∷ [])
-      → IsNext r key (knows_or d me.0).lane (start_or d (knows_or d me.0).stage) y
+      → TakesTurn r (knows_or d me.0).lane (start_or d (knows_or d me.0).stage) y
       → Allows (Kept r key) slots id me' 1 (λ n. (n + 1) % 2 ^ 64) (served r (step slots 1 1 0 none) me')
   leaving slots id d me me' y turned put next =
       let k : Knows T = knows_or d me.0 in
@@ -80,10 +82,12 @@ module _ {T E O H : Type 0} (r : Log T E O H) (key : T) where
     pub own : Alike r v.lane v.seen x
     pub kept : r.held v.lane x ≡ r.held v.lane v.kept
     pub ended : v.lane ≡ 0 → (l : ℕ) → Has v.ended l → Alike r l v.seen x
+    pub remains : v.lane ≡ 0 → All (Remains r x) v.remains
     pub unsplit : v.lane ≡ 0 → (l : ℕ) → l ≢ 0 → ¬ Has v.splits l → Alike r l v.made x
+    pub untouched : v.lane ≡ 0 → (l : ℕ) → l ≢ 0 → ¬ Has v.splits l → r.held l v.made ≡ r.held l x
 
   finds_for : (z : Lock) (k : Knows T) (x : T) → Finds r k x → FindsFor (sat z k) x
-  finds_for z k x f = record { since = f.since; origin = f.origin; seen = f.seen; own = f.own; kept = f.kept; ended = f.ended; unsplit = f.unsplit }
+  finds_for z k x f = record { since = f.since; origin = f.origin; seen = f.seen; own = f.own; kept = f.kept; ended = f.ended; remains = f.remains; unsplit = f.unsplit; untouched = f.untouched }
 
   -- what the turn had found at its beginning
   pub had_found : (z : Lock) (d : T) (me me' me'' : Sat T) (y : T) (n : ℕ) → Turned d me → me' ≡ (me.0, (0, Some y) ∷ []) → served r (step 1 1 1 0 none) me' n me''
@@ -103,14 +107,14 @@ module _ {T E O H : Type 0} (r : Log T E O H) (key : T) where
     pub others : (l : ℕ) → l ≢ t.seat.lane → Alike r l t.start now.seen
     pub origin : r.origin now.seen ≡ r.origin t.seat.made
 
-  pub leaves_for : (t : Turning T) → IsNext r key t.seat.lane t.start t.value → FindsFor t.seat t.start → Leaves t (record t.seat { seen = t.value; kept = t.value })
+  pub leaves_for : (t : Turning T) → TakesTurn r t.seat.lane t.start t.value → FindsFor t.seat t.start → Leaves t (record t.seat { seen = t.value; kept = t.value })
   leaves_for t next f = record {
     seat = refl;
-    seen = begins_on (r.entries t.seat.seen) (r.entries t.start) (r.entries t.value) f.seen (adds_grow r key t.seat.lane t.start t.value next.0);
+    seen = begins_on (r.entries t.seat.seen) (r.entries t.start) (r.entries t.value) f.seen (adds_grow r key t.seat.lane t.start t.value next.list);
     quiet = λ e. ap (entries_by r.by t.seat.lane) e ∙ sym f.own;
     entry = λ e by is. ap (entries_by r.by t.seat.lane) is ∙ (one_more r.by t.seat.lane (r.entries t.start) e by ∙ ap (λ (w : List (ℕ × E)). w ++ (length (r.entries t.start) + 1, e) ∷ []) (sym f.own));
-    others = λ l apart. adds_alike r key t.seat.lane l t.start t.value next.0 apart;
-    origin = next.1 ∙ f.origin;
+    others = λ l apart. adds_alike r key t.seat.lane l t.start t.value next.list apart;
+    origin = next.origin ∙ f.origin;
   }
 
   -- the seat has the slot
@@ -122,15 +126,17 @@ module _ {T E O H : Type 0} (r : Log T E O H) (key : T) where
       let is : me'' ≡ (Sits (record k { stage = Holds t.0 c.0 }), (0, Some c.0) ∷ []) = c.1 in
       (Some c.0, subst (λ (m : Sat T). m.1 ≡ (0, Some c.0) ∷ rest m.1) (sym is) refl)
 
-  pub hearing_seat : (slots id : ℕ) (d : T) (me : Sat T) → Rested d me → Allows (Kept r key) slots id me 2 (λ n. n) (heard (step slots 2 0 0 none) me)
-  hearing_seat slots id d me rested = subst (λ (m : Sat T). Allows (Kept r key) slots id m 2 (λ n. n) (heard (step slots 2 0 0 none) m)) (sym rested) (hears r key slots id (resting d me))
-
-  pub ringing_seat : (slots id : ℕ) (d : T) (me : Sat T) → Rested d me → Allows (Kept r key) slots id me 2 (λ n. (n + 1) % 2 ^ 64) (rang (step slots 2 1 0 none) me)
-  ringing_seat slots id d me rested = subst (λ (m : Sat T). Allows (Kept r key) slots id m 2 (λ n. (n + 1) % 2 ^ 64) (rang (step slots 2 1 0 none) m)) (sym rested) (rings r key slots id (resting d me))
-
-  pub naming : (slots id lane : ℕ) (d : T) (me : Sat T) → Rested d me → Allows (Kept r key) slots id me 0 (λ n. either (eqb n lane) lane n) (named (step slots 0 lane lane none) me)
+  pub naming : (slots id lane : ℕ) (d : T) (me : Sat T) → Rested d me → Allows (Kept r key) slots id me 0 (λ n. either (eqb n lane) lane n) (named r (step slots 0 lane lane none) me)
   naming slots id lane d me rested =
-      subst (λ (m : Sat T). Allows (Kept r key) slots id m 0 (λ n. either (eqb n lane) lane n) (named (step slots 0 lane lane none) m)) (sym rested) (names r key slots id lane (resting d me))
+      subst (λ (m : Sat T). Allows (Kept r key) slots id m 0 (λ n. either (eqb n lane) lane n) (named r (step slots 0 lane lane none) m)) (sym rested) (names r key slots id lane (resting d me))
+
+  pub named_is : (lane : ℕ) (d : T) (me me' : Sat T) (n : ℕ) → Rested d me → named r (step 1 0 lane lane none) me n me' → me' ≡ (Sits (record (resting d me) { stage = Names lane }), [])
+  named_is lane d me me' n rested h = (subst (λ (m : Sat T). named r (step 1 0 lane lane none) m n me') rested h).0
+
+  -- what a seat that rests has seen, as contracts see it
+  pub seen_unsplit : (b z : TableId) (d : T) (me : Sat T) → Rested d me → IsUnsplit r me.0 → UnsplitFor r (sitting b z d me.0)
+  seen_unsplit b z d me rested known =
+      subst (λ (w : Sitting T). UnsplitFor r w) (sym (rested_view (record { board = b; stamps = z }) d me rested)) (subst (λ (m : Sat T). IsUnsplit r m.0) rested known)
 
   pub splitting : (id lane : ℕ) (d : T) (me me' : Sat T) → me' ≡ (Sits (record (resting d me) { stage = Names lane }), [])
       → (knows_or d me.0).lane ≡ 0 → lane ≢ 0 → lane < 2 ^ 32 → ¬ Has (knows_or d me.0).splits lane → Splits (Kept r key) id me'.0 (split_left me'.0) (split_right me'.0)
@@ -143,7 +149,7 @@ module _ {T E O H : Type 0} (r : Log T E O H) (key : T) where
 
   -- the seat that took in another one
   abbrev pub merged_knows : Knows T → Knows T → Knows T
-  merged_knows k m = record k { seen = longer r k.seen m.seen; ended = m.lane ∷ k.ended; stage = Joined k.seen m.seen m.lane }
+  merged_knows k m = record k { seen = longer r k.seen m.seen; ended = m.lane ∷ k.ended; remains = (m.lane, m.kept) ∷ k.remains; stage = Joined k.seen m.seen m.lane }
 
   pub merged_is : (d e : T) (me you me' : Sat T) → Rested d me → Rested e you → me' ≡ (joined r me.0 you.0, me.1) → me' ≡ (Sits (merged_knows (resting d me) (resting e you)), [])
   merged_is d e me you me' rested rested' is = is ∙ ap (λ (m : Sat T × Sat T). (joined r m.0.0 m.1.0, m.0.1)) (λ i. (rested i, rested' i))
@@ -159,6 +165,8 @@ module _ {T E O H : Type 0} (r : Log T E O H) (key : T) where
     pub since : Grows r v.made x
     pub unsplit : (l : ℕ) → l ≢ 0 → ¬ Has v.splits l → Alike r l v.made x
     pub kept : r.held 0 x ≡ r.held v.lane v.kept
+    pub remains : All (Remains r x) v.remains
+    pub untouched : (l : ℕ) → l ≢ 0 → ¬ Has v.splits l → r.held l v.made ≡ r.held l x
 
   pub closing : (z : Lock) (d : T) (id : ℕ) (me : Sat T) (words : List ℕ) (slots : List (Option T)) (got : Option T) → Rested d me → (knows_or d me.0).lane ≡ 0
       → ((l : ℕ) → Has (knows_or d me.0).splits l → Has (knows_or d me.0).ended l) → Final (Seen (Kept r key) id me.0) words slots → get_elem? slots 0 ≡ some got
@@ -167,7 +175,7 @@ module _ {T E O H : Type 0} (r : Log T E O H) (key : T) where
       let k : Knows T = resting d me in
       let f = subst (λ (w : Sat T). Final (Seen (Kept r key) id w.0) words slots) rested final in
       let c = closes r key id k words slots first all_joined f in
-      let b : ClosesFor (sat z k) c.0 = record { origin = c.2.origin; list = c.2.list; since = c.2.since; unsplit = c.2.unsplit; kept = c.2.kept } in
+      let b : ClosesFor (sat z k) c.0 = record { origin = c.2.origin; list = c.2.list; since = c.2.since; unsplit = c.2.unsplit; kept = c.2.kept; remains = c.2.remains; untouched = c.2.untouched } in
       (c.0, some-injective got (Some c.0) (sym there ∙ c.1), subst (λ (w : Sitting T). ClosesFor w c.0) (sym (rested_view z d me rested)) b)
 
   some_or : T → Option T → T

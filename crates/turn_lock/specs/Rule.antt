@@ -1,5 +1,6 @@
 -- The rule of the table.
-use Rattle.std.specs.Prelude.{◌≡◌, ◌≢◌, ◌⊎◌, ℕ, ◌+◌, ◌%◌, ◌^◌, ◌<◌, ◌≤◌, List, [], ◌∷◌, length, slice_index, Option, Some, None}
+use Rattle.std.specs.Prelude.{◌≡◌, ◌≢◌, ◌⊎◌, ℕ, ◌+◌, ◌%◌, ◌^◌, ◌<◌, ◌≤◌, List, [], ◌∷◌, ◌++◌, length, slice_index, Option, Some, None}
+use Rattle.std.specs.List.{All}
 use mathlib.Core.Option.{some}
 use mathlib.Core.List.{IsPrefix}
 use lib.ListN.{get_elem?}
@@ -27,17 +28,35 @@ log entries by origin held = record { entries = entries; by = by; origin = origi
 abbrev pub Grows : {T E O H : Type 0} → Log T E O H → T → T → Type 0
 Grows r x y = IsPrefix (r.entries x) (r.entries y)
 
+-- what a turn of the lane owes: it began at the value x, and leaves the value y
+pub record TakesTurn {T E O H : Type 0} (r : Log T E O H) (lane : ℕ) (x y : T) : Type 0 where
+  -- the list is the same, or has one entry more, the lane's
+  pub list : (r.entries y ≡ r.entries x) ⊎ ((e : E) × (r.by e ≡ lane) × (r.entries y ≡ r.entries x ++ e ∷ []))
+  pub origin : r.origin y ≡ r.origin x
+  -- what is held for other lanes is the same
+  pub others : (l : ℕ) → l ≢ lane → r.held l y ≡ r.held l x
+
 -- the lane's entries are the same in both lists
 abbrev pub Alike : {T E O H : Type 0} → Log T E O H → ℕ → T → T → Type 0
 Alike r lane x y = entries_by r.by lane (r.entries x) ≡ entries_by r.by lane (r.entries y)
 
 module _ {T : Type 0} where
-  abbrev pub knowing : ℕ → T → T → T → List ℕ → List ℕ → ℕ → Stage T → Knows T
-  knowing lane made seen kept splits ended heard stage = record { lane = lane; made = made; seen = seen; kept = kept; splits = splits; ended = ended; heard = heard; stage = stage }
+  -- a seat that has joined no other
+  abbrev pub knowing : ℕ → T → T → T → Stage T → Knows T
+  knowing lane made seen kept stage = record {
+    lane = lane;
+    made = made;
+    seen = seen;
+    kept = kept;
+    splits = [];
+    ended = [];
+    remains = [];
+    stage = stage;
+  }
 
   -- the first seat
   abbrev pub beginning : T → Knows T
-  beginning x = knowing 0 x x x [] [] 0 Rests
+  beginning x = knowing 0 x x x Rests
 
   abbrev pub starting : T → View T
   starting x = Sits (beginning x)
@@ -76,7 +95,8 @@ AreLanes [] = Unit {0}
 AreLanes (x ∷ xs) = (¬ Has xs x) × (x < 2 ^ 32) × AreLanes xs
 
 -- a seat of the lane `lane`, which has seen a, took in the seat of l, which has seen b: together they have seen x
-pub record Merges {T E O H : Type 0} (r : Log T E O H) (lane : ℕ) (ended : List ℕ) (a b : T) (l : ℕ) (x : T) : Type 0 where
+pub record Merges {T E O H : Type 0} (r : Log T E O H) (lane : ℕ) (ended : List ℕ) (a b : T) (l : ℕ) (x : T)
+    : Type 0 where
   pub longer : (x ≡ a) ⊎ (x ≡ b)
   pub ours : Grows r a x
   pub theirs : Grows r b x
@@ -92,8 +112,16 @@ StageOk r cur served out k (Holds t x) = (t ≡ served) × (0 < out) × (x ≡ c
 StageOk r cur served out k (Names l) = Unit {0}
 StageOk r cur served out k (Joined a b l) = Merges r k.lane k.ended a b l k.seen
 
+-- what the value x holds for a lane is what the value beside the lane holds for it
+abbrev pub Remains : {T E O H : Type 0} → Log T E O H → T → ℕ × T → Type 0
+Remains r x p = r.held p.0 p.1 ≡ r.held p.0 x
+
+abbrev pub EndedWith : {T E O H : Type 0} → Log T E O H → List ℕ → T → ℕ × T → Type 0
+EndedWith r ended x p = Has ended p.0 × Remains r x p
+
 -- what is true of a seat, where the value at make is `key`, and the value under the lock is `cur`
-pub record SeatOk {T E O H : Type 0} (r : Log T E O H) (key cur : T) (served out : ℕ) (splits ended : List ℕ) (k : Knows T) : Type 0 where
+pub record SeatOk {T E O H : Type 0} (r : Log T E O H) (key cur : T) (served out : ℕ) (splits ended : List ℕ)
+    (k : Knows T) : Type 0 where
   pub made : k.made ≡ key
   -- what it has seen is a beginning of the one list, and has the entries of its lane
   pub since : Grows r key k.seen
@@ -105,7 +133,12 @@ pub record SeatOk {T E O H : Type 0} (r : Log T E O H) (key cur : T) (served out
   pub first : k.lane ≡ 0 → (k.splits ≡ splits) × (k.ended ≡ ended)
   pub other : k.lane ≢ 0 → Has splits k.lane × (¬ Has ended k.lane)
   pub gone : k.lane ≡ 0 → (l : ℕ) → Has ended l → Alike r l k.seen cur
+  pub remains : k.lane ≡ 0 → All (EndedWith r ended cur) k.remains
   pub stage : StageOk r cur served out k k.stage
+
+-- of the first seat: a lane that it has not split off has the entries that it had at make
+abbrev pub Unsplit : {T E O H : Type 0} → Log T E O H → Knows T → T → Type 0
+Unsplit r k x = k.lane ≡ 0 → (l : ℕ) → l ≢ 0 → ¬ Has k.splits l → Alike r l k.made x
 
 -- two seats have two lanes, and two turns
 abbrev pub Differ : {T : Type 0} → Knows T → Knows T → Type 0
@@ -115,32 +148,32 @@ Differ k m = (k.lane ≢ m.lane) × ((t : ℕ) → HasTurn k.stage t → ¬ HasT
 pub record Kept {T E O H : Type 0} (r : Log T E O H) (key : T) (s : State (Option T) (View T)) : Type 0 where
   -- the value at home, or that at which the turn began
   pub cur : T
-  -- the turn that is served, and how often the bell has rung
+  -- the turn that is served
   pub served : ℕ
-  pub rings : ℕ
   -- the lanes that were split off, and those that have ended
   pub splits : List ℕ
   pub ended : List ℕ
-  pub sizes : (length s.words ≡ 3) × (length s.homes ≡ 1)
+  pub sizes : (1 < length s.words) × (length s.homes ≡ 1)
   -- the words
   pub ticket : slice_index s.words 0 ≡ (served + turns s.views) % 2 ^ 64
   pub serving : slice_index s.words 1 ≡ served % 2 ^ 64
-  pub bell : slice_index s.words 2 ≡ rings % 2 ^ 64
   -- the value
   pub origin : r.origin cur ≡ r.origin key
   pub grown : Grows r key cur
   -- there is a seat for each lane that was split off, and the first
   pub few : length s.views ≡ 1 + length splits
   pub lanes : AreLanes splits
-  pub were : (l : ℕ) → Has ended l → Has splits l
+  pub were : (l : ℕ) → Has ended l → Has splits l × (l ≢ 0)
   -- the seats
-  pub each : (i : ℕ) (k : Knows T) → get_elem? s.views i ≡ some (Sits k) → SeatOk r key cur served (turns s.views) splits ended k
-  pub heard : (i : ℕ) (k : Knows T) → get_elem? s.views i ≡ some (Sits k) → k.heard ≤ rings
-  pub apart : (i j : ℕ) (k m : Knows T) → get_elem? s.views i ≡ some (Sits k) → get_elem? s.views j ≡ some (Sits m) → i ≢ j → Differ k m
+  pub each : (i : ℕ) (k : Knows T) → get_elem? s.views i ≡ some (Sits k)
+      → SeatOk r key cur served (turns s.views) splits ended k
+  pub apart : (i j : ℕ) (k m : Knows T) → get_elem? s.views i ≡ some (Sits k) → get_elem? s.views j ≡ some (Sits m)
+      → i ≢ j → Differ k m
   -- a lane that was not split off has the entries that it had at make, and the same is held for it
   pub unsplit : (l : ℕ) → l ≢ 0 → ¬ Has splits l → Alike r l key cur × (r.held l key ≡ r.held l cur)
   -- the value is at home, or a seat has it
-  pub home : (get_elem? s.homes 0 ≡ some (some (Some cur))) ⊎ ((i : ℕ) × (k : Knows T) × (get_elem? s.views i ≡ some (Sits k)) × IsHolder k.stage)
+  pub home : (get_elem? s.homes 0 ≡ some (some (Some cur)))
+      ⊎ ((i : ℕ) × (k : Knows T) × (get_elem? s.views i ≡ some (Sits k)) × IsHolder k.stage)
 
 -- each seat of the second table remembers the value
 abbrev pub AllSame : {T : Type 0} → T → State (Unit {0}) T → Type 0
@@ -148,7 +181,16 @@ AllSame {T} key s = (i : ℕ) (v : T) → get_elem? s.views i ≡ some v → v �
 
 module _ {T : Type 0} where
   abbrev pub sat : Lock → Knows T → Sitting T
-  sat z k = record { lock = z; lane = k.lane; made = k.made; seen = k.seen; kept = k.kept; splits = k.splits; ended = k.ended; heard = k.heard }
+  sat z k = record {
+    lock = z;
+    lane = k.lane;
+    made = k.made;
+    seen = k.seen;
+    kept = k.kept;
+    splits = k.splits;
+    ended = k.ended;
+    remains = k.remains;
+  }
 
   abbrev pub sitting : TableId → TableId → T → View T → Sitting T
   sitting board stamps d v = sat (record { board = board; stamps = stamps }) (knows_or d v)
@@ -166,8 +208,18 @@ module _ {T : Type 0} where
   start_or d _ = d
 
   abbrev pub turning : TableId → TableId → T → View T → T → Turning T
-  turning board stamps d v now = record { seat = sitting board stamps d v; start = start_or d (knows_or d v).stage; value = now }
+  turning board stamps d v now = record {
+    seat = sitting board stamps d v;
+    start = start_or d (knows_or d v).stage;
+    value = now;
+  }
 
   -- the seat has its turn, and the slot, which is empty
   abbrev pub Turned : T → Me (Option T) (View T) → Type 0
-  Turned d me = me ≡ (Sits (record (knows_or d me.0) { made = d; stage = Holds (turn_or 0 (knows_or d me.0).stage) (start_or d (knows_or d me.0).stage) }), (0, None) ∷ [])
+  Turned d me = me ≡ (
+    Sits (record (knows_or d me.0) {
+      made = d;
+      stage = Holds (turn_or 0 (knows_or d me.0).stage) (start_or d (knows_or d me.0).stage);
+    }),
+    (0, None) ∷ [],
+  )

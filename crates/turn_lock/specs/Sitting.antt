@@ -20,8 +20,21 @@ pub record Sitting (T : Type 0) : Type 0 where
   -- the lanes that this seat split off, and those that it joined
   pub splits : List ℕ
   pub ended : List ℕ
-  -- how often the seat knows that the bell has rung
-  pub heard : ℕ
+  -- the lanes that it joined, each with a value that holds for the lane what is held for it under the lock
+  pub remains : List (ℕ × T)
+
+-- the first seat of a lock over the value
+abbrev pub first_seat : {T : Type 0} → Lock → T → Sitting T
+first_seat z x = record {
+  lock = z;
+  lane = 0;
+  made = x;
+  seen = x;
+  kept = x;
+  splits = [];
+  ended = [];
+  remains = [];
+}
 
 -- the seat's own entries in what it has seen, each with its number in the list
 abbrev pub mine : {T E : Type 0} → (T → List E) → (E → ℕ) → Sitting T → List (ℕ × E)

@@ -1,8 +1,9 @@
 -- What each step tells its seat.
-use Rattle.std.specs.Prelude.{◌≡◌, ◌≢◌, ℕ, ◌%◌, ◌^◌, ◌<◌, ◌≤◌, nat_lt, [], ◌∷◌, length, if◌then◌else◌, Option, Some}
+use Rattle.std.specs.Prelude.{◌≡◌, ◌≢◌, ℕ, ◌%◌, ◌^◌, nat_lt, [], ◌∷◌, length, if◌then◌else◌, Option, Some}
+use Rattle.std.specs.List.{All}
 use Rattle.atomic_table.specs.Table.{Me, Step}
 use Rattle.turn_lock.specs.Sitting.{Has}
-use Rattle.turn_lock.specs.Rule.{Log, Grows, Alike, Merges, knowing}
+use Rattle.turn_lock.specs.Rule.{Log, Grows, Alike, Merges, Unsplit, Remains, knowing}
 use Rattle.turn_lock.specs.declared.board.Stage.{Stage}
 use Rattle.turn_lock.specs.declared.board.Stage.TheVariants.{Rests, Waits, Holds, Names, Joined}
 use Rattle.turn_lock.specs.declared.board.Knows.{Knows}
@@ -38,26 +39,9 @@ module _ {T : Type 0} where
   abbrev pub took : At T → Sat T → ℕ → Sat T → Type 0
   took st m n m' = (t : ℕ) × (t % 2 ^ 64 ≡ n) × (m' ≡ (staged m.0 (Waits t), m.1))
 
-  abbrev pub hearing : View T → ℕ → View T
-  hearing Spent h = Spent
-  hearing (Sits k) h = Sits (record k { heard = h })
-
-  abbrev pub heard_of : View T → ℕ
-  heard_of Spent = 0
-  heard_of (Sits k) = k.heard
-
-  -- the bell has rung h times, modulo the numbers of a word
-  abbrev pub heard : At T → Sat T → ℕ → Sat T → Type 0
-  heard st m n m' = (h : ℕ) × (h % 2 ^ 64 ≡ n) × (heard_of m.0 ≤ h) × (m' ≡ (hearing m.0 h, m.1))
-
-  -- the bell has rung once more
-  abbrev pub rang : At T → Sat T → ℕ → Sat T → Type 0
-  rang st m n m' = (h : ℕ) × (heard_of m.0 < h) × (m' ≡ (hearing m.0 h, m.1))
-
-module _ {T : Type 0} where
-  -- the seat names the lane
-  abbrev pub named : At T → Sat T → ℕ → Sat T → Type 0
-  named st m n m' = m' ≡ (staged m.0 (Names st.first), m.1)
+  -- the seat stays as it is
+  abbrev pub stirred : At T → Sat T → ℕ → Sat T → Type 0
+  stirred st m n m' = m' ≡ m
 
   abbrev pub name_in : Stage T → ℕ
   name_in (Names l) = l
@@ -70,7 +54,7 @@ module _ {T : Type 0} where
 
   abbrev pub split_right : View T → View T
   split_right Spent = Spent
-  split_right (Sits k) = Sits (knowing (name_in k.stage) k.made k.seen k.made [] [] k.heard Rests)
+  split_right (Sits k) = Sits (knowing (name_in k.stage) k.made k.seen k.made Rests)
 
 -- what a turn finds: the value x
 pub record Finds {T E O H : Type 0} (r : Log T E O H) (k : Knows T) (x : T) : Type 0 where
@@ -80,7 +64,9 @@ pub record Finds {T E O H : Type 0} (r : Log T E O H) (k : Knows T) (x : T) : Ty
   pub own : Alike r k.lane k.seen x
   pub kept : r.held k.lane x ≡ r.held k.lane k.kept
   pub ended : k.lane ≡ 0 → (l : ℕ) → Has k.ended l → Alike r l k.seen x
-  pub unsplit : k.lane ≡ 0 → (l : ℕ) → l ≢ 0 → ¬ Has k.splits l → Alike r l k.made x
+  pub remains : k.lane ≡ 0 → All (Remains r x) k.remains
+  pub unsplit : Unsplit r k x
+  pub untouched : k.lane ≡ 0 → (l : ℕ) → l ≢ 0 → ¬ Has k.splits l → r.held l k.made ≡ r.held l x
 
 abbrev pub Found : {T E O H : Type 0} → Log T E O H → View T → T → Type 0
 Found r Spent x = Unit {0}
@@ -116,11 +102,25 @@ module _ {T E O H : Type 0} (r : Log T E O H) where
   abbrev pub longer : T → T → T
   longer x y = if nat_lt (length (r.entries x)) (length (r.entries y)) then y else x
 
+  -- what the seat has seen has no entry of a lane that was not split off but those at make
+  abbrev pub IsUnsplit : View T → Type 0
+  IsUnsplit Spent = Unit {0}
+  IsUnsplit (Sits k) = Unsplit r k k.seen
+
+  -- the seat names the lane
+  abbrev pub named : At T → Sat T → ℕ → Sat T → Type 0
+  named st m n m' = (m' ≡ (staged m.0 (Names st.first), m.1)) × IsUnsplit m.0
+
   -- of two seats: the first takes in the second
   abbrev pub joined : View T → View T → View T
   joined Spent w = Spent
   joined (Sits k) Spent = Sits k
-  joined (Sits k) (Sits m) = Sits (record k { seen = longer k.seen m.seen; ended = m.lane ∷ k.ended; stage = Joined k.seen m.seen m.lane })
+  joined (Sits k) (Sits m) = Sits (record k {
+    seen = longer k.seen m.seen;
+    ended = m.lane ∷ k.ended;
+    remains = (m.lane, m.kept) ∷ k.remains;
+    stage = Joined k.seen m.seen m.lane;
+  })
 
   abbrev pub Told : Knows T → Stage T → Type 0
   Told k (Joined a b l) = Merges r k.lane k.ended a b l k.seen
@@ -132,4 +132,4 @@ module _ {T E O H : Type 0} (r : Log T E O H) where
 
   -- the seat is told what it has seen together with the seat that it took in
   abbrev pub told : At T → Sat T → ℕ → Sat T → Type 0
-  told st m n m' = (m' ≡ (staged m.0 Rests, m.1)) × IsTold m.0
+  told st m n m' = (m' ≡ (staged m.0 Rests, m.1)) × IsTold m.0 × IsUnsplit m.0

@@ -1,9 +1,10 @@
 //! The table that the seats share, and what a seat at it knows.
-//! Word 0 counts the tickets, word 1 is the number that is served, and word 2 is the bell.
+//! Word 0 counts the tickets, and word 1 is the number that is served. The rule says nothing of the words behind these.
 //! The slot holds the value, but while a turn is out with it.
 use crate::logged::Logged;
 use atomic_table::{Seat, Table, TableRule};
 use std::alloc::Global;
+use std::collections::LinkedList;
 use std::snapshot::Snapshot;
 
 /// What a seat is about.
@@ -19,7 +20,7 @@ pub enum Stage<T> {
     Joined(T, T, u64),
 }
 
-/// What a seat knows. No value of it is made. A clause reads an array as a list, of any length.
+/// What a seat knows. No value of it is made. A clause reads an array as a list, of any length, and a `LinkedList` too.
 pub struct Knows<T> {
     pub lane: u64,
     /// The value at `make`.
@@ -32,8 +33,8 @@ pub struct Knows<T> {
     pub splits: [u64; 0],
     /// The lanes that were joined.
     pub ended: [u64; 0],
-    /// The bell has rung so often, or more often.
-    pub heard: u64,
+    /// The lanes that were joined, each with a value that holds for it what the value under the lock does.
+    pub remains: LinkedList<(u64, T)>,
     pub stage: Stage<T>,
 }
 

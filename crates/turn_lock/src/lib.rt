@@ -8,10 +8,8 @@ mod board;
 mod logged;
 mod plays;
 mod seat;
-#[cfg(test)]
-mod tests;
 mod turn;
 
 pub use logged::Logged;
 pub use seat::{Inside, Seat};
-pub use turn::{MakeRefusal, Turn, make};
+pub use turn::{MakeRefusal, Turn, make, make_from};

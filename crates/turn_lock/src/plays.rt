@@ -29,28 +29,22 @@ impl<T: Logged> Play<Option<T>, View<T>> for Serve {
     ghost then = { served (log T.entries T.by T.origin T.held) };
 }
 
-pub(crate) struct Hear;
+/// A step on a word of which the rule says nothing.
+pub(crate) struct Stir;
 
-impl<T> Play<Option<T>, View<T>> for Hear {
-    ghost use Rattle.turn_lock.specs.Steps.{heard};
+impl<T> Play<Option<T>, View<T>> for Stir {
+    ghost use Rattle.turn_lock.specs.Steps.{stirred};
 
-    ghost then = { heard };
-}
-
-pub(crate) struct Ring;
-
-impl<T> Play<Option<T>, View<T>> for Ring {
-    ghost use Rattle.turn_lock.specs.Steps.{rang};
-
-    ghost then = { rang };
+    ghost then = { stirred };
 }
 
 pub(crate) struct Name;
 
-impl<T> Play<Option<T>, View<T>> for Name {
+impl<T: Logged> Play<Option<T>, View<T>> for Name {
+    ghost use Rattle.turn_lock.specs.Rule.{log};
     ghost use Rattle.turn_lock.specs.Steps.{named};
 
-    ghost then = { named };
+    ghost then = { named (log T.entries T.by T.origin T.held) };
 }
 
 pub(crate) struct Cut;

@@ -1,10 +1,14 @@
 //! A list of numbers that seats append to, each in a thread of its own.
-ghost use Rattle.std.specs.Prelude.{◌≡◌, ◌∷◌, ◌++◌, [], ◌<◌, All, IfOk, OnOk, OnErr};
+ghost use Rattle.std.specs.Prelude.{◌≡◌, [], ◌<◌, All, IfOk};
+ghost use Rattle.turn_lock.specs.Rule.{TakesTurn};
+ghost use Rattle.turn_lock_bench.specs.Tally.{tally_log};
 
 use std::alloc::{AllocError, Global};
+use std::rt::Clock;
 use std::sync::{Mutex, Wait};
 use std::thread;
 use std::thread::Threads;
+use std::time::Instant;
 use turn_lock::{Logged, Seat, Turn};
 
 /// An entry: who made it.
@@ -47,17 +51,37 @@ impl Tally {
     }
 
     fn add(&mut self, lane: u32) -> Result<(), AllocError>
-        ensures name { self.new.name ≡ self.old.name }
-        ensures ok { OnOk result (self.new.strokes.items ≡ self.old.strokes.items ++ record { lane = lane } ∷ []) }
-        ensures err { OnErr result (self.new.strokes.items ≡ self.old.strokes.items) }
+        ensures turn { TakesTurn tally_log lane self.old self.new }
     {
         self.strokes.push(Stroke { lane })?;
         Ok(())
     }
 }
 
-/// A seat that makes so many turns.
-fn strokes<R: Wait>(rt: &R, lock: &Turn<Tally>, mut seat: Seat<Tally>, turns: u64) -> Seat<Tally>
+/// Lets so many microseconds pass.
+fn hold<R: Clock>(rt: &R, micros: u64) {
+    if micros == 0 {
+        return;
+    }
+    let Ok(start) = Instant::now(rt) else {
+        return;
+    };
+    for _ in 0..u64::MAX {
+        match start.elapsed(rt) {
+            Ok(time) if time.as_micros() < u128::from(micros) => {}
+            _ => return,
+        }
+    }
+}
+
+/// A seat that makes so many turns, each of so many microseconds.
+fn strokes<R: Wait + Clock>(
+    rt: &R,
+    lock: &Turn<Tally>,
+    mut seat: Seat<Tally>,
+    turns: u64,
+    micros: u64,
+) -> Seat<Tally>
     requires { seat.lock ≡ lock.now }
     ensures { result ≡ record seat { seen = result.seen; kept = result.kept } }
 {
@@ -65,6 +89,7 @@ fn strokes<R: Wait>(rt: &R, lock: &Turn<Tally>, mut seat: Seat<Tally>, turns: u6
     for _ in 0..turns {
         let mut inside = lock.enter(rt, seat);
         let _ = inside.value().add(lane);
+        hold(rt, micros);
         seat = lock.leave(inside, false);
     }
     seat
@@ -92,11 +117,12 @@ fn seats(
 }
 
 /// Each seat makes so many turns, in a thread of its own. Gives how many strokes there are.
-pub fn with_turns<R: Threads + Wait + Sync>(
+pub fn with_turns<R: Threads + Wait + Sync + Clock>(
     rt: &R,
     alloc: Global,
     count: u32,
     turns: u64,
+    micros: u64,
 ) -> Result<usize, AllocError>
     requires { count < 1000 }
 {
@@ -109,7 +135,7 @@ pub fn with_turns<R: Threads + Wait + Sync>(
         all,
         &|seat: Seat<Tally>| -> Seat<Tally>
             requires { seat.lock ≡ lock }
-        { strokes(rt, &lock, seat, turns) },
+        { strokes(rt, &lock, seat, turns, micros) },
     )?;
     let mut inside = lock.enter(rt, first);
     let made = inside.value().strokes.len();
@@ -118,11 +144,12 @@ pub fn with_turns<R: Threads + Wait + Sync>(
 }
 
 /// The same under a `Mutex`.
-pub fn with_mutex<R: Threads + Wait + Sync>(
+pub fn with_mutex<R: Threads + Wait + Sync + Clock>(
     rt: &R,
     alloc: Global,
     count: u32,
     turns: u64,
+    micros: u64,
 ) -> Result<usize, AllocError> {
     let lock = Mutex::new(Tally::make(alloc));
     thread::map_indices(
@@ -131,7 +158,9 @@ pub fn with_mutex<R: Threads + Wait + Sync>(
         count as usize,
         &|_| {
             for _ in 0..turns {
-                let _ = lock.lock(rt).add(0);
+                let mut tally = lock.lock(rt);
+                let _ = tally.add(0);
+                hold(rt, micros);
             }
         },
     )?;

@@ -22,4 +22,4 @@ returns g c =
     (ap (λ v. v.lane) c.into_parts-place.ensures.view ∙ c.requires.first)
     (λ l h. subst (λ v. Has v.ended l) (sym c.into_parts-place.ensures.view) (c.requires.joined l (subst (λ v. Has v.splits l) c.into_parts-place.ensures.view h)))
     c.close_with-closed.ensures.values.2 c.take.ensures.value c.into_parts-place.ensures.view c.unwrap-value.ensures in
-    record { origin = f.origin; list = f.list; since = f.since; unsplit = f.unsplit; kept = f.kept }
+    record { origin = f.origin; list = f.list; since = f.since; unsplit = f.unsplit; kept = f.kept; remains = f.remains; untouched = f.untouched }

@@ -17,7 +17,7 @@ split_seat-place-requires g c = (
   c.compare_exchange.ensures.0 ∙ (ap (λ z. z.lock.board) c.seat.view_is ∙ (ap (λ z. z.board) c.requires.lock ∙ sym (ap (λ z. z.board) c.self.view_is))),
   omega (arith, c.self.invariant.0),
   splitting (log g.T.Logged.entries g.T.Logged.by g.T.Logged.origin g.T.Logged.held) c.self.inside.board.shared.key.value _ c.args.lane c.seat.inside.stamp.me.0 c.seat.inside.place.me c.compare_exchange.new.seat.me
-      (named_is c.args.lane c.seat.inside.stamp.me.0 c.seat.inside.place.me c.compare_exchange.new.seat.me c.compare_exchange.result c.seat.invariant.0 c.compare_exchange.ensures.2)
+      (named_is (log g.T.Logged.entries g.T.Logged.by g.T.Logged.origin g.T.Logged.held) c.self.inside.board.shared.key.value c.args.lane c.seat.inside.stamp.me.0 c.seat.inside.place.me c.compare_exchange.new.seat.me c.compare_exchange.result c.seat.invariant.0 c.compare_exchange.ensures.2)
       (ap (λ z. z.lane) c.seat.view_is ∙ c.requires.first) c.requires.lane.0 (omega (arith, c.ranges.lane))
       (λ h. c.requires.lane.1 (subst (λ z. Has z.splits c.args.lane) c.seat.view_is h)),
 )

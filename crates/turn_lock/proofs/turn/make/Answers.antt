@@ -1,7 +1,0 @@
-use Rattle.turn_lock.specs.Rule.{log}
-use Rattle.turn_lock.proofs.Ends.{starts_with}
-use Rattle.turn_lock.proofs.turn.make.Goals as goal
-
-pub new-requires : goal.new-requires
-new-requires g c =
-    starts_with (log g.T.Logged.entries g.T.Logged.by g.T.Logged.origin g.T.Logged.held) c.of-about.result.value c.args.value c.in_ok-slots.slots.items c.of-about.ensures c.in_ok-slots.ensures.ok
