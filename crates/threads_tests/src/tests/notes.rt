@@ -1,11 +1,13 @@
 //! A list of numbers as the value under a lock.
-ghost use Rattle.std.specs.Prelude.{◌≡◌, ◌∷◌, ◌++◌, [], ◌+◌, length, IfOk, OnOk, OnErr, map};
+ghost use Rattle.std.specs.Prelude.{◌≡◌, ◌∷◌, ◌++◌, [], ◌+◌, length, OnOk, OnErr, map};
+ghost use Rattle.turn_lock.specs.Rule.{TakesTurn};
 ghost use Rattle.turn_lock.specs.Sitting.{mine};
-ghost use Rattle.turn_lock.specs.declared.tests.notes.Note.{Note};
+ghost use Rattle.threads_tests.specs.declared.tests.notes.Note.{Note};
+ghost use Rattle.threads_tests.specs.Notes.{notes_log};
 
-use crate::{Logged, Seat, Turn};
 use std::alloc::{AllocError, Global};
 use std::sync::Wait;
+use turn_lock::{Logged, Seat, Turn};
 
 #[derive(Clone, Copy, Debug, PartialEq, Eq)]
 pub struct Note {
@@ -46,7 +48,7 @@ impl Notes {
     }
 
     pub fn add(&mut self, note: Note) -> Result<(), AllocError>
-        ensures name { self.new.name ≡ self.old.name }
+        ensures turn { TakesTurn notes_log note.lane self.old self.new }
         ensures ok { OnOk result (self.new.notes.items ≡ self.old.notes.items ++ note ∷ []) }
         ensures err { OnErr result (self.new.notes.items ≡ self.old.notes.items) }
     {
@@ -55,7 +57,7 @@ impl Notes {
     }
 }
 
-/// One turn, which adds a note.
+/// One turn, which adds a note, and rings.
 pub fn add<R: Wait>(
     rt: &R,
     lock: &Turn<Notes>,
@@ -64,10 +66,13 @@ pub fn add<R: Wait>(
 ) -> (Seat<Notes>, Result<(), AllocError>)
     requires lock { seat.lock ≡ lock.now }
     requires lane { note.lane ≡ seat.lane }
-    ensures seat { result.0 ≡ record seat { seen = result.0.seen; kept = result.0.kept; heard = result.0.heard } }
-    ensures ok { OnOk result.1 (map (λ p. p.1) (mine (λ n. n.notes.items) (λ e. e.lane) result.0) ≡ map (λ p. p.1) (mine (λ n. n.notes.items) (λ e. e.lane) seat) ++ note ∷ []) }
-    ensures count { OnOk result.1 (length (mine (λ n. n.notes.items) (λ e. e.lane) result.0) ≡ length (mine (λ n. n.notes.items) (λ e. e.lane) seat) + 1) }
-    ensures err { OnErr result.1 (mine (λ n. n.notes.items) (λ e. e.lane) result.0 ≡ mine (λ n. n.notes.items) (λ e. e.lane) seat) }
+    ensures seat { result.0 ≡ record seat { seen = result.0.seen; kept = result.0.kept } }
+    ensures ok { OnOk result.1 (map (λ p. p.1) (mine (λ n. n.notes.items) (λ e. e.lane) result.0)
+        ≡ map (λ p. p.1) (mine (λ n. n.notes.items) (λ e. e.lane) seat) ++ note ∷ []) }
+    ensures count { OnOk result.1 (length (mine (λ n. n.notes.items) (λ e. e.lane) result.0)
+        ≡ length (mine (λ n. n.notes.items) (λ e. e.lane) seat) + 1) }
+    ensures err { OnErr result.1 (mine (λ n. n.notes.items) (λ e. e.lane) result.0
+        ≡ mine (λ n. n.notes.items) (λ e. e.lane) seat) }
 {
     let mut inside = lock.enter(rt, seat);
     let added = inside.value().add(note);
@@ -83,8 +88,9 @@ pub fn add_all<R: Wait>(
     to: u64,
 ) -> (Seat<Notes>, u64)
     requires { seat.lock ≡ lock.now }
-    ensures seat { result.0 ≡ record seat { seen = result.0.seen; kept = result.0.kept; heard = result.0.heard } }
-    ensures count { length (mine (λ n. n.notes.items) (λ e. e.lane) result.0) ≡ length (mine (λ n. n.notes.items) (λ e. e.lane) seat) + result.1 }
+    ensures seat { result.0 ≡ record seat { seen = result.0.seen; kept = result.0.kept } }
+    ensures count { length (mine (λ n. n.notes.items) (λ e. e.lane) result.0)
+        ≡ length (mine (λ n. n.notes.items) (λ e. e.lane) seat) + result.1 }
 {
     let lane = seat.lane();
     let mut count = 0;

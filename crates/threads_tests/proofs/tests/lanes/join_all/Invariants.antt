@@ -1,6 +1,6 @@
 use Rattle.std.proofs.Common.{◌≡◌, ◌<◌, ◌≤◌, ℕ, length}
 use Rattle.turn_lock.specs.Sitting.{Has}
-use Rattle.turn_lock.proofs.tests.join_all.Given as goal
+use Rattle.threads_tests.proofs.tests.lanes.join_all.Given as goal
 
 abbrev pub invariant-loop-seat : goal.invariant-loop-seat
 invariant-loop-seat l = record {

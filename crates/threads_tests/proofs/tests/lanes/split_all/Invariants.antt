@@ -1,6 +1,6 @@
 use Rattle.std.proofs.Common.{◌≡◌, ◌<◌, ◌+◌, ℕ, vec_len, get_or}
 use Rattle.turn_lock.specs.Sitting.{Has}
-use Rattle.turn_lock.proofs.tests.split_all.Given as goal
+use Rattle.threads_tests.proofs.tests.lanes.split_all.Given as goal
 
 abbrev pub invariant-loop-lane : goal.invariant-loop-lane
 invariant-loop-lane l = record {
