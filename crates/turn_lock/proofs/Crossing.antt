@@ -7,7 +7,7 @@ use Rattle.std.proofs.Crossing.{crosses}
 use Rattle.std.specs.declared.alloc.Allocator as allocator
 use denote.Param.Send.{Frees}
 use Rattle.atomic_table.specs.declared.shared.TableRule as table_rule
-use Rattle.atomic_table.specs.contracts.shared.Seat as places
+use Rattle.atomic_table.specs.contracts.shared.Seat as table_seat
 use Rattle.atomic_table.specs.contracts.shared.Shared as boards
 use Rattle.atomic_table.specs.contracts.send_lease.SendLease as leases
 use Rattle.atomic_table.proofs.Sent.{seat_keyless, shares_keyless}
@@ -16,8 +16,8 @@ use Rattle.turn_lock.specs.declared.logged.Logged.{Ghosts}
 use Rattle.turn_lock.specs.contracts.seat.Seat as seat
 use Rattle.turn_lock.specs.contracts.turn.Turn as turn
 
-places_send : (S V : RattleType) → IsSend S → IsSend (places.the_row S V)
-places_send S V s = record { owned = λ d vs. ((λ vss. (tt, ((λ uss. (tt, tt)), tt))), seat_keyless S s V.coded.code d.table_id d.id d.me); leaving = λ k f vs. tt }
+table_seat_send : (S V : RattleType) → IsSend S → IsSend (table_seat.the_row S V)
+table_seat_send S V s = record { owned = λ d vs. ((λ vss. (tt, ((λ uss. (tt, tt)), tt))), seat_keyless S s V.coded.code d.table_id d.id d.me); leaving = λ k f vs. tt }
 
 boards_sync : (S V K P : RattleType) (g : table_rule.Ghosts P.Denot S.Denot V.Denot K.Denot) → IsSend S → IsSync (boards.the_row S V K P g)
 boards_sync S V K P g s = let fields : IsSync (Struct (shape (boards.the_type S V K P g))) = search sendable depth 20 in
@@ -27,7 +27,7 @@ leases_sync : (T A : RattleType) (g : allocator.Ghosts A.Denot) → IsSend A →
 leases_sync T A g s f = record { shared = λ d b o ν q. part_keyless (leases.the_row T A g) (right_send T A g f) q d b o }
 
 pub seat_send : (T : RattleType) → IsSend T → IsSend (seat.the_row T)
-seat_send T s = search (sendable, crosses, places_send) depth 30
+seat_send T s = search (sendable, crosses, table_seat_send) depth 30
 
 pub turn_sync : (T E O H : RattleType) (g : Ghosts T.Denot E.Denot O.Denot H.Denot) → IsSend T → IsSync (turn.the_row T E O H g)
 turn_sync T E O H g s = search (sendable, crosses, boards_sync, leases_sync) depth 30

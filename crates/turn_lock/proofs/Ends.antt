@@ -13,7 +13,7 @@ use prog.Atomic.{either}
 use Rattle.atomic_table.specs.Table.{State, step, keeps, Allows, Splits, Joins, opening, Final, Seen}
 use Rattle.atomic_table.proofs.Lists.{at_set, set_else, at_longer, at_snoc, exchanged}
 use Rattle.turn_lock.specs.Sitting.{Has}
-use Rattle.turn_lock.specs.Rule.{Log, Grows, Alike, Remains, EndedWith, Kept, SeatOk, Differ, IsHolder, turns, knows_or, knowing, beginning, starting, AllSame}
+use Rattle.turn_lock.specs.Rule.{Log, Grows, Alike, Remains, EndedWith, IsTable, SeatOk, Differ, IsHolder, turns, knows_or, knowing, beginning, starting, AllSame}
 use Rattle.turn_lock.specs.Steps.{named, split_left, split_right, longer, joined, told}
 use Rattle.turn_lock.specs.declared.board.Stage.TheVariants.{Rests, Names, Joined}
 use Rattle.turn_lock.specs.declared.board.Knows.{Knows}
@@ -27,7 +27,7 @@ module _ {T E O H : Type 0} (r : Log T E O H) (key : T) where
   St = State (Option T) (View T)
 
   -- the first two words have the same number
-  pub starts : (words : List ℕ) (n : ℕ) → 1 < length words → n < 2 ^ 64 → get_or words 0 0 ≡ n → get_or words 1 0 ≡ n → Kept r key (opening words (Some key ∷ []) (starting key))
+  pub starts : (words : List ℕ) (n : ℕ) → 1 < length words → n < 2 ^ 64 → get_or words 0 0 ≡ n → get_or words 1 0 ≡ n → IsTable r key (opening words (Some key ∷ []) (starting key))
   starts words n long small ticket serving = record {
     cur = key;
     served = n;
@@ -78,7 +78,7 @@ module _ {T E O H : Type 0} (r : Log T E O H) (key : T) where
       alone i j k m a b ne = absurd (ne ((here i k a).0 ∙ sym (here j m b).0))
 
   pub names : (slots id lane : ℕ) (k : Knows T)
-      → Allows (Kept r key) slots id (Sits (record k { stage = Rests }), []) 0 (λ n. either (eqb n lane) lane n) (named r (step slots 0 lane lane none) (Sits (record k { stage = Rests }), []))
+      → Allows (IsTable r key) slots id (Sits (record k { stage = Rests }), []) 0 (λ n. either (eqb n lane) lane n) (named r (step slots 0 lane lane none) (Sits (record k { stage = Rests }), []))
   names slots id lane k s q deep at fits =
       let old : Knows T = record k { stage = Rests } in
       let k' : Knows T = record k { stage = Names lane } in
@@ -89,7 +89,7 @@ module _ {T E O H : Type 0} (r : Log T E O H) (key : T) where
         Sits k',
         keeps,
         tt,
-        subst (λ (w : List ℕ). Kept r key record { words = w; homes = s.homes; views = set s.views id (Sits k') }) (sym (ap (λ (z : ℕ). set s.words 0 z) same ∙ set-get_or s.words 0 0))
+        subst (λ (w : List ℕ). IsTable r key record { words = w; homes = s.homes; views = set s.views id (Sits k') }) (sym (ap (λ (z : ℕ). set s.words 0 z) same ∙ set-get_or s.words 0 0))
             (moved r key s q id k' s.words s.homes q.cur q.served refl q.sizes.1
             (q.ticket ∙ ap (λ (z : ℕ). (q.served + z) % 2 ^ 64) (sym out)) q.serving q.origin q.grown
             (restaged r key q.cur q.served (turns s.views) (turns (set s.views id (Sits k'))) q.splits q.ended old (Names lane) tt (q.each id old at))
@@ -101,7 +101,7 @@ module _ {T E O H : Type 0} (r : Log T E O H) (key : T) where
       )
 
   pub splits : (id lane : ℕ) (k : Knows T) → k.lane ≡ 0 → lane ≢ 0 → lane < 2 ^ 32 → ¬ Has k.splits lane
-      → Splits (Kept r key) id (Sits (record k { stage = Names lane })) (split_left (Sits (record k { stage = Names lane }))) (split_right (Sits (record k { stage = Names lane })))
+      → Splits (IsTable r key) id (Sits (record k { stage = Names lane })) (split_left (Sits (record k { stage = Names lane }))) (split_right (Sits (record k { stage = Names lane })))
   splits id lane k first some_lane small new s q at =
       let old : Knows T = record k { stage = Names lane } in
       let k' : Knows T = record k { splits = lane ∷ k.splits; stage = Rests } in
@@ -208,7 +208,7 @@ module _ {T E O H : Type 0} (r : Log T E O H) (key : T) where
       ⊎_elim (λ (t : (i ≡ other) × (Spent ≡ Sits h)). let f = t.1 in absurd (cc)) (λ (t : (i ≢ other) × (get_elem? vs i ≡ some (Sits h))). t) (at_set vs other i Spent (Sits h) e)
 
   pub merges : (id other : ℕ) (k m : Knows T) → k.lane ≡ 0
-      → Joins (Kept r key) id (Sits (record k { stage = Rests })) other (Sits (record m { stage = Rests })) (joined r (Sits (record k { stage = Rests })) (Sits (record m { stage = Rests }))) Spent
+      → Joins (IsTable r key) id (Sits (record k { stage = Rests })) other (Sits (record m { stage = Rests })) (joined r (Sits (record k { stage = Rests })) (Sits (record m { stage = Rests }))) Spent
   merges id other k m first s q at ne at1 =
       let k0 : Knows T = record k { stage = Rests } in
       let m0 : Knows T = record m { stage = Rests } in
@@ -299,7 +299,7 @@ module _ {T E O H : Type 0} (r : Log T E O H) (key : T) where
       }
 
   pub tells : (slots id : ℕ) (k : Knows T) (a b : T) (l : ℕ)
-      → Allows (Kept r key) slots id (Sits (record k { stage = Joined a b l }), []) 0 (λ n. n) (told r (step slots 0 0 0 none) (Sits (record k { stage = Joined a b l }), []))
+      → Allows (IsTable r key) slots id (Sits (record k { stage = Joined a b l }), []) 0 (λ n. n) (told r (step slots 0 0 0 none) (Sits (record k { stage = Joined a b l }), []))
   tells slots id k a b l s q deep at fits =
       let old : Knows T = record k { stage = Joined a b l } in
       let k' : Knows T = record k { stage = Rests } in
@@ -308,7 +308,7 @@ module _ {T E O H : Type 0} (r : Log T E O H) (key : T) where
         Sits k',
         keeps,
         tt,
-        subst (λ (w : List ℕ). Kept r key record { words = w; homes = s.homes; views = set s.views id (Sits k') }) (sym (set-get_or s.words 0 0))
+        subst (λ (w : List ℕ). IsTable r key record { words = w; homes = s.homes; views = set s.views id (Sits k') }) (sym (set-get_or s.words 0 0))
             (moved r key s q id k' s.words s.homes q.cur q.served refl q.sizes.1
             (q.ticket ∙ ap (λ (z : ℕ). (q.served + z) % 2 ^ 64) (sym out)) q.serving q.origin q.grown
             (restaged r key q.cur q.served (turns s.views) (turns (set s.views id (Sits k'))) q.splits q.ended old Rests tt (q.each id old at))
@@ -330,7 +330,7 @@ module _ {T E O H : Type 0} (r : Log T E O H) (key : T) where
     pub untouched : (l : ℕ) → l ≢ 0 → ¬ Has k.splits l → r.held l k.made ≡ r.held l x
 
   pub closes : (id : ℕ) (k : Knows T) (words : List ℕ) (slots : List (Option T)) → k.lane ≡ 0 → ((l : ℕ) → Has k.splits l → Has k.ended l)
-      → Final (Seen (Kept r key) id (Sits (record k { stage = Rests }))) words slots → (x : T) × (get_elem? slots 0 ≡ some (Some x)) × Closes k x
+      → Final (Seen (IsTable r key) id (Sits (record k { stage = Rests }))) words slots → (x : T) × (get_elem? slots 0 ≡ some (Some x)) × Closes k x
   closes id k words slots first all_joined (s, (q, at), words_are, deep, there) =
       let old : Knows T = record k { stage = Rests } in
       let ok = q.each id old at in
@@ -376,6 +376,6 @@ module _ {T E O H : Type 0} (r : Log T E O H) (key : T) where
   same_start (suc i) v e = absurd (some-ne-none v (sym e))
 
   pub starts_with : (value : T) (words : List ℕ) (slots : List (Option T)) (n : ℕ) → 1 < length words → n < 2 ^ 64 → get_or words 0 0 ≡ n → get_or words 1 0 ≡ n → key ≡ value → slots ≡ Some value ∷ []
-      → Kept r key (opening words slots (starting key))
+      → IsTable r key (opening words slots (starting key))
   starts_with value words slots n long small ticket serving same is =
-      subst (λ (w : List (Option T)). Kept r key (opening words w (starting key))) (sym (is ∙ ap (λ (w : T). Some w ∷ []) (sym same))) (starts words n long small ticket serving)
+      subst (λ (w : List (Option T)). IsTable r key (opening words w (starting key))) (sym (is ∙ ap (λ (w : T). Some w ∷ []) (sym same))) (starts words n long small ticket serving)

@@ -12,7 +12,7 @@ use Rattle.atomic_table.specs.Table.{State, step, keeps, takes, gives, Allows}
 use Rattle.atomic_table.proofs.Lists.{at_set, set_here, set_else, set_again, one_turn}
 use Rattle.turn_lock.specs.Entries.{entries_by}
 use Rattle.turn_lock.specs.Sitting.{Has}
-use Rattle.turn_lock.specs.Rule.{Log, Grows, Alike, TakesTurn, Unsplit, Remains, EndedWith, Kept, SeatOk, StageOk, Differ, HasTurn, IsHolder, turns, knows_or}
+use Rattle.turn_lock.specs.Rule.{Log, Grows, Alike, TakesTurn, Unsplit, Remains, EndedWith, IsTable, SeatOk, StageOk, Differ, HasTurn, IsHolder, turns, knows_or}
 use Rattle.turn_lock.specs.Steps.{took, Sat, served, Finds, looked}
 use Rattle.turn_lock.specs.declared.board.Stage.{Stage}
 use Rattle.turn_lock.specs.declared.board.Stage.TheVariants.{Rests, Waits, Holds, Names, Joined}
@@ -99,7 +99,7 @@ module _ {T E O H : Type 0} (r : Log T E O H) (key : T) where
   }
 
   -- one seat moves, and the value, the words and the slot may change
-  pub moved : (s : St) (q : Kept r key s) (id : ℕ) (k' : Knows T) (words' : List ℕ) (homes' : List (maybe.Option (Option T))) (cur' : T) (served' : ℕ)
+  pub moved : (s : St) (q : IsTable r key s) (id : ℕ) (k' : Knows T) (words' : List ℕ) (homes' : List (maybe.Option (Option T))) (cur' : T) (served' : ℕ)
       → length words' ≡ length s.words → length homes' ≡ 1
       → get_or words' 0 0 ≡ (served' + turns (set s.views id (Sits k'))) % 2 ^ 64 → get_or words' 1 0 ≡ served' % 2 ^ 64
       → r.origin cur' ≡ r.origin key → Grows r key cur'
@@ -108,7 +108,7 @@ module _ {T E O H : Type 0} (r : Log T E O H) (key : T) where
       → ((j : ℕ) (m : Knows T) → j ≢ id → get_elem? s.views j ≡ some (Sits m) → Differ k' m)
       → ((l : ℕ) → l ≢ 0 → ¬ Has q.splits l → Alike r l key cur' × (r.held l key ≡ r.held l cur'))
       → ((get_elem? homes' 0 ≡ some (some (Some cur'))) ⊎ ((i : ℕ) × (m : Knows T) × (get_elem? (set s.views id (Sits k')) i ≡ some (Sits m)) × IsHolder m.stage))
-      → Kept r key record { words = words'; homes = homes'; views = set s.views id (Sits k') }
+      → IsTable r key record { words = words'; homes = homes'; views = set s.views id (Sits k') }
   moved s q id k' words' homes' cur' served' wide deep ticket serving origin grown mine others differ unsplit home = record {
     cur = cur';
     served = served';
@@ -140,17 +140,17 @@ module _ {T E O H : Type 0} (r : Log T E O H) (key : T) where
       (λ (ne : i ≢ id). inr (i, m, set_else s.views id i (Sits k') ne ∙ ati, is))
 
   -- a step that changes nothing
-  pub unmoved : (s : St) (q : Kept r key s) (i id : ℕ) (v : View T) → get_elem? s.views id ≡ some v
-      → Kept r key record { words = set s.words i (get_or s.words i 0); homes = s.homes; views = set s.views id v }
+  pub unmoved : (s : St) (q : IsTable r key s) (i id : ℕ) (v : View T) → get_elem? s.views id ≡ some v
+      → IsTable r key record { words = set s.words i (get_or s.words i 0); homes = s.homes; views = set s.views id v }
   unmoved s q i id v at =
-      subst (λ (z : List ℕ × List (View T)). Kept r key record { words = z.0; homes = s.homes; views = z.1 })
+      subst (λ (z : List ℕ × List (View T)). IsTable r key record { words = z.0; homes = s.homes; views = z.1 })
       (λ c. (sym (set-get_or s.words i 0) c, sym (set_again s.views id v at) c)) q
 
   -- few turns are out
-  turns_fit : (s : St) (q : Kept r key s) → turns s.views < 2 ^ 64
+  turns_fit : (s : St) (q : IsTable r key s) → turns s.views < 2 ^ 64
   turns_fit s q = let a = turns_few s.views in let b = few_lanes q.splits q.lanes in let c = q.few in omega arith
 
-  pub takes_ticket : (slots id : ℕ) (k : Knows T) → Allows (Kept r key) slots id (Sits (record k { stage = Rests }), []) 0 (λ n. (n + 1) % 2 ^ 64) (took (step slots 0 1 0 none) (Sits (record k { stage = Rests }), []))
+  pub takes_ticket : (slots id : ℕ) (k : Knows T) → Allows (IsTable r key) slots id (Sits (record k { stage = Rests }), []) 0 (λ n. (n + 1) % 2 ^ 64) (took (step slots 0 1 0 none) (Sits (record k { stage = Rests }), []))
   takes_ticket slots id k s q deep at fits =
       let t : ℕ = q.served + turns s.views in
       let k' : Knows T = record k { stage = Waits t } in
@@ -181,18 +181,18 @@ module _ {T E O H : Type 0} (r : Log T E O H) (key : T) where
   same_turn k k' m lane turn d = ((λ e. d.0 (sym lane ∙ e)), (λ u a b. d.1 u (turn u a) b))
 
   -- a lane that the first seat has not split off has not been split off
-  not_split : (s : St) (q : Kept r key s) (id : ℕ) (k : Knows T) → get_elem? s.views id ≡ some (Sits k) → k.lane ≡ 0 → (l : ℕ) → ¬ Has k.splits l → ¬ Has q.splits l
+  not_split : (s : St) (q : IsTable r key s) (id : ℕ) (k : Knows T) → get_elem? s.views id ≡ some (Sits k) → k.lane ≡ 0 → (l : ℕ) → ¬ Has k.splits l → ¬ Has q.splits l
   not_split s q id k at first l h g = h (subst (λ (z : List ℕ). Has z l) (sym ((q.each id k at).first first).0) g)
 
   -- what a seat has seen has no entry of a lane that was not split off but those at make
-  pub knows_unsplit : (s : St) (q : Kept r key s) (id : ℕ) (k : Knows T) → get_elem? s.views id ≡ some (Sits k) → Unsplit r k k.seen
+  pub knows_unsplit : (s : St) (q : IsTable r key s) (id : ℕ) (k : Knows T) → get_elem? s.views id ≡ some (Sits k) → Unsplit r k k.seen
   knows_unsplit s q id k at first l apart h =
       let ok = q.each id k at in
       let far : Alike r l key q.cur = (q.unsplit l apart (not_split s q id k at first l h)).0 in
       let near : Alike r l k.seen q.cur = between r.by l (r.entries key) (r.entries k.seen) (r.entries q.cur) ok.since ok.seen far in
       subst (λ (z : T). Alike r l z k.seen) (sym ok.made) (far ∙ sym near)
 
-  finds : (s : St) (q : Kept r key s) (id : ℕ) (k : Knows T) → get_elem? s.views id ≡ some (Sits k) → Finds r k q.cur
+  finds : (s : St) (q : IsTable r key s) (id : ℕ) (k : Knows T) → get_elem? s.views id ≡ some (Sits k) → Finds r k q.cur
   finds s q id k at = let ok = q.each id k at in let out = not_split s q id k at in record {
     since = subst (λ (z : T). Grows r z q.cur) (sym ok.made) q.grown;
     origin = q.origin ∙ ap r.origin (sym ok.made);
@@ -206,9 +206,9 @@ module _ {T E O H : Type 0} (r : Log T E O H) (key : T) where
   }
 
   -- the seat of the turn that is served takes the value out
-  comes : (s : St) (q : Kept r key s) (id : ℕ) (k : Knows T) (t : ℕ) → get_elem? s.views id ≡ some (Sits (record k { stage = Waits t })) → t ≡ q.served
+  comes : (s : St) (q : IsTable r key s) (id : ℕ) (k : Knows T) (t : ℕ) → get_elem? s.views id ≡ some (Sits (record k { stage = Waits t })) → t ≡ q.served
       → (get_elem? s.homes 0 ≡ some (some (Some q.cur)))
-      → Kept r key record { words = set s.words 1 (get_or s.words 1 0); homes = set s.homes 0 none; views = set s.views id (Sits (record k { stage = Holds t q.cur })) }
+      → IsTable r key record { words = set s.words 1 (get_or s.words 1 0); homes = set s.homes 0 none; views = set s.views id (Sits (record k { stage = Holds t q.cur })) }
   comes s q id k t at now home =
       let old : Knows T = record k { stage = Waits t } in
       let k' : Knows T = record k { stage = Holds t q.cur } in
@@ -217,7 +217,7 @@ module _ {T E O H : Type 0} (r : Log T E O H) (key : T) where
       let ok = q.each id old at in
       let low = ok.stage.0 in
       let high = ok.stage.1 in
-      subst (λ (w : List ℕ). Kept r key record { words = w; homes = set s.homes 0 none; views = set s.views id (Sits k') }) (sym (set-get_or s.words 1 0))
+      subst (λ (w : List ℕ). IsTable r key record { words = w; homes = set s.homes 0 none; views = set s.views id (Sits k') }) (sym (set-get_or s.words 1 0))
       (moved s q id k' s.words (set s.homes 0 none) q.cur q.served refl (length-set s.homes 0 none ∙ q.sizes.1)
       (q.ticket ∙ ap (λ (n : ℕ). (q.served + n) % 2 ^ 64) (sym out)) q.serving q.origin q.grown
       (restaged q.cur q.served (turns s.views) (turns (set s.views id (Sits k'))) q.splits q.ended old (Holds t q.cur) (now, omega arith, refl) ok)
@@ -227,7 +227,7 @@ module _ {T E O H : Type 0} (r : Log T E O H) (key : T) where
       (inr (id, k', set_here s.views id (Sits k') (at_below s.views id (Sits old) at), tt)))
 
   -- where a seat's turn is served, no other has the value
-  undisturbed : (s : St) (q : Kept r key s) (id : ℕ) (k : Knows T) (t : ℕ) → get_elem? s.views id ≡ some (Sits (record k { stage = Waits t })) → t ≡ q.served
+  undisturbed : (s : St) (q : IsTable r key s) (id : ℕ) (k : Knows T) (t : ℕ) → get_elem? s.views id ≡ some (Sits (record k { stage = Waits t })) → t ≡ q.served
       → (get_elem? s.homes 0 ≡ some (some (Some q.cur))) ⊎ ((i : ℕ) × (m : Knows T) × (get_elem? s.views i ≡ some (Sits m)) × IsHolder m.stage)
       → get_elem? s.homes 0 ≡ some (some (Some q.cur))
   undisturbed s q id k t at now (inl h) = h
@@ -248,7 +248,7 @@ module _ {T E O H : Type 0} (r : Log T E O H) (key : T) where
           (λ (ne : i ≢ id). (q.apart i id m old ati at ne).1 q.served (subst (λ (z : Stage T). HasTurn z q.served) (sym e) ok.0) now)
 
   pub looks : (slots id : ℕ) (k : Knows T) (t : ℕ)
-      → Allows (Kept r key) slots id (Sits (record k { stage = Waits t }), []) 1 (λ n. n) (looked r (step slots 1 0 0 none) (Sits (record k { stage = Waits t }), []))
+      → Allows (IsTable r key) slots id (Sits (record k { stage = Waits t }), []) 1 (λ n. n) (looked r (step slots 1 0 0 none) (Sits (record k { stage = Waits t }), []))
   looks slots id k t s q deep at fits =
       let old : Knows T = record k { stage = Waits t } in
       let ok = q.each id old at in
@@ -313,8 +313,8 @@ module _ {T E O H : Type 0} (r : Log T E O H) (key : T) where
   value_or d ((n, Some y) ∷ xs) = y
   value_or d ((n, None) ∷ xs) = d
 
-  leaves : (s : St) (q : Kept r key s) (id : ℕ) (k : Knows T) (t : ℕ) (y : T) → get_elem? s.views id ≡ some (Sits (record k { stage = Holds t q.cur })) → t ≡ q.served → TakesTurn r k.lane q.cur y
-      → Kept r key record { words = set s.words 1 ((get_or s.words 1 0 + 1) % 2 ^ 64); homes = set s.homes 0 (some (Some y)); views = set s.views id (Sits (record k { seen = y; kept = y; stage = Rests })) }
+  leaves : (s : St) (q : IsTable r key s) (id : ℕ) (k : Knows T) (t : ℕ) (y : T) → get_elem? s.views id ≡ some (Sits (record k { stage = Holds t q.cur })) → t ≡ q.served → TakesTurn r k.lane q.cur y
+      → IsTable r key record { words = set s.words 1 ((get_or s.words 1 0 + 1) % 2 ^ 64); homes = set s.homes 0 (some (Some y)); views = set s.views id (Sits (record k { seen = y; kept = y; stage = Rests })) }
   leaves s q id k t y at now next =
       let old : Knows T = record k { stage = Holds t q.cur } in
       let k' : Knows T = record k { seen = y; kept = y; stage = Rests } in
@@ -351,7 +351,7 @@ module _ {T E O H : Type 0} (r : Log T E O H) (key : T) where
       (inl (set_here s.homes 0 (some (Some y)) (omega (arith, q.sizes.1))))
 
   pub serves : (slots id : ℕ) (k : Knows T) (t : ℕ) (x y : T) → TakesTurn r k.lane x y
-      → Allows (Kept r key) slots id (Sits (record k { stage = Holds t x }), (0, Some y) ∷ []) 1 (λ n. (n + 1) % 2 ^ 64) (served r (step slots 1 1 0 none) (Sits (record k { stage = Holds t x }), (0, Some y) ∷ []))
+      → Allows (IsTable r key) slots id (Sits (record k { stage = Holds t x }), (0, Some y) ∷ []) 1 (λ n. (n + 1) % 2 ^ 64) (served r (step slots 1 1 0 none) (Sits (record k { stage = Holds t x }), (0, Some y) ∷ []))
   unfolding value_or
   serves slots id k t x y next s q deep at fits =
       let ok = q.each id (record k { stage = Holds t x }) at in
@@ -367,12 +367,12 @@ module _ {T E O H : Type 0} (r : Log T E O H) (key : T) where
       )
 
   -- a step on a word behind the first two
-  pub stirs : (slots id : ℕ) (me : Sat T) (i : ℕ) (f : ℕ → ℕ) → 1 < i → Allows (Kept r key) slots id me i f (λ n m'. m' ≡ me)
+  pub stirs : (slots id : ℕ) (me : Sat T) (i : ℕ) (f : ℕ → ℕ) → 1 < i → Allows (IsTable r key) slots id me i f (λ n m'. m' ≡ me)
   stirs slots id me i f behind s q deep at fits = (
     me.0,
     keeps,
     tt,
-    subst (λ (z : List (View T)). Kept r key record { words = set s.words i (f (get_or s.words i 0)); homes = s.homes; views = z }) (sym (set_again s.views id me.0 at)) record {
+    subst (λ (z : List (View T)). IsTable r key record { words = set s.words i (f (get_or s.words i 0)); homes = s.homes; views = z }) (sym (set_again s.views id me.0 at)) record {
       cur = q.cur;
       served = q.served;
       splits = q.splits;

@@ -5,8 +5,8 @@ use mathlib.Core.Option.{none, some, some-injective}
 use Rattle.atomic_table.specs.Table.{step, Allows, Splits, Joins, Final, Seen, rest}
 use Rattle.atomic_table.specs.Seated.{TableId}
 use Rattle.turn_lock.specs.Sitting.{Lock, Sitting, Turning, mine, Has}
-use Rattle.turn_lock.specs.Rule.{Log, Grows, Alike, TakesTurn, Remains, Kept, knows_or, sat, sitting, Rested, Turned, turn_or, start_or}
-use Rattle.turn_lock.specs.Steps.{Sat, ticket_of, settled, took, served, Finds, came, looked, IsWaiting, IsOut, IsUnsplit, named, split_left, split_right, longer, joined, told}
+use Rattle.turn_lock.specs.Rule.{Log, Grows, Alike, TakesTurn, Remains, IsTable, knows_or, sat, sitting, Rested, Turned, turn_or, start_or}
+use Rattle.turn_lock.specs.Steps.{Sat, ticket_of, after_turn, took, served, Finds, came, looked, IsWaiting, IsOut, IsUnsplit, named, split_left, split_right, longer, joined, told}
 use Rattle.turn_lock.specs.declared.board.Stage.TheVariants.{Rests, Holds, Names, Joined}
 use Rattle.turn_lock.specs.declared.board.Knows.{Knows}
 use Rattle.turn_lock.specs.declared.board.View.{View}
@@ -46,11 +46,11 @@ abbrev pub UnsplitFor : {T E O H : Type 0} → Log T E O H → Sitting T → Typ
 UnsplitFor r v = v.lane ≡ 0 → (l : ℕ) → l ≢ 0 → ¬ Has v.splits l → Alike r l v.made v.seen
 
 module _ {T E O H : Type 0} (r : Log T E O H) (key : T) where
-  pub entering : (slots id : ℕ) (d : T) (me : Sat T) → Rested d me → Allows (Kept r key) slots id me 0 (λ n. (n + 1) % 2 ^ 64) (took (step slots 0 1 0 none) me)
-  entering slots id d me rested = subst (λ (m : Sat T). Allows (Kept r key) slots id m 0 (λ n. (n + 1) % 2 ^ 64) (took (step slots 0 1 0 none) m)) (sym rested) (takes_ticket r key slots id (resting d me))
+  pub entering : (slots id : ℕ) (d : T) (me : Sat T) → Rested d me → Allows (IsTable r key) slots id me 0 (λ n. (n + 1) % 2 ^ 64) (took (step slots 0 1 0 none) me)
+  entering slots id d me rested = subst (λ (m : Sat T). Allows (IsTable r key) slots id m 0 (λ n. (n + 1) % 2 ^ 64) (took (step slots 0 1 0 none) m)) (sym rested) (takes_ticket r key slots id (resting d me))
 
-  pub waiting : (slots id n : ℕ) (me : Sat T) → IsWaiting n me → Allows (Kept r key) slots id me 1 (λ n. n) (looked r (step slots 1 0 0 none) me)
-  waiting slots id n me w = subst (λ (m : Sat T). Allows (Kept r key) slots id m 1 (λ n. n) (looked r (step slots 1 0 0 none) m)) (sym w.2) (looks r key slots id w.0 w.1)
+  pub waiting : (slots id n : ℕ) (me : Sat T) → IsWaiting n me → Allows (IsTable r key) slots id me 1 (λ n. n) (looked r (step slots 1 0 0 none) me)
+  waiting slots id n me w = subst (λ (m : Sat T). Allows (IsTable r key) slots id m 1 (λ n. n) (looked r (step slots 1 0 0 none) m)) (sym w.2) (looks r key slots id w.0 w.1)
 
   -- the turn has not come, or it has
   pub not_yet : (me me' : Sat T) (n number : ℕ) → IsWaiting number me → looked r (step 1 1 0 0 none) me n me' → n ≢ number → me' ≡ me
@@ -61,10 +61,10 @@ module _ {T E O H : Type 0} (r : Log T E O H) (key : T) where
 
   pub leaving : (slots id : ℕ) (d : T) (me me' : Sat T) (y : T) → Turned d me → me' ≡ (me.0, (0, Some y) ∷ [])
       → TakesTurn r (knows_or d me.0).lane (start_or d (knows_or d me.0).stage) y
-      → Allows (Kept r key) slots id me' 1 (λ n. (n + 1) % 2 ^ 64) (served r (step slots 1 1 0 none) me')
+      → Allows (IsTable r key) slots id me' 1 (λ n. (n + 1) % 2 ^ 64) (served r (step slots 1 1 0 none) me')
   leaving slots id d me me' y turned put next =
       let k : Knows T = knows_or d me.0 in
-      subst (λ (m : Sat T). Allows (Kept r key) slots id m 1 (λ n. (n + 1) % 2 ^ 64) (served r (step slots 1 1 0 none) m))
+      subst (λ (m : Sat T). Allows (IsTable r key) slots id m 1 (λ n. (n + 1) % 2 ^ 64) (served r (step slots 1 1 0 none) m))
       (sym (put ∙ ap (λ (m : Sat T). (m.0, (0, Some y) ∷ [])) turned))
       (serves r key slots id (record k { made = d }) (turn_or 0 k.stage) (start_or d k.stage) y next)
 
@@ -72,7 +72,7 @@ module _ {T E O H : Type 0} (r : Log T E O H) (key : T) where
   pub left : (d : T) (me me' me'' : Sat T) (y : T) (n : ℕ) → Turned d me → me' ≡ (me.0, (0, Some y) ∷ []) → served r (step 1 1 1 0 none) me' n me''
       → me'' ≡ (Sits (record (knows_or d me.0) { made = d; seen = y; kept = y; stage = Rests }), [])
   left d me me' me'' y n turned put h =
-      h.0 y (ap (λ (m : Sat T). m.1) put) ∙ ap (λ (v : View T). (settled v y, [])) (ap (λ (m : Sat T). m.0) put ∙ ap (λ (m : Sat T). m.0) turned)
+      h.0 y (ap (λ (m : Sat T). m.1) put) ∙ ap (λ (v : View T). (after_turn v y, [])) (ap (λ (m : Sat T). m.0) put ∙ ap (λ (m : Sat T). m.0) turned)
 
   -- what contracts say of what a turn finds
   pub record FindsFor (v : Sitting T) (x : T) : Type 0 where
@@ -126,9 +126,9 @@ module _ {T E O H : Type 0} (r : Log T E O H) (key : T) where
       let is : me'' ≡ (Sits (record k { stage = Holds t.0 c.0 }), (0, Some c.0) ∷ []) = c.1 in
       (Some c.0, subst (λ (m : Sat T). m.1 ≡ (0, Some c.0) ∷ rest m.1) (sym is) refl)
 
-  pub naming : (slots id lane : ℕ) (d : T) (me : Sat T) → Rested d me → Allows (Kept r key) slots id me 0 (λ n. either (eqb n lane) lane n) (named r (step slots 0 lane lane none) me)
+  pub naming : (slots id lane : ℕ) (d : T) (me : Sat T) → Rested d me → Allows (IsTable r key) slots id me 0 (λ n. either (eqb n lane) lane n) (named r (step slots 0 lane lane none) me)
   naming slots id lane d me rested =
-      subst (λ (m : Sat T). Allows (Kept r key) slots id m 0 (λ n. either (eqb n lane) lane n) (named r (step slots 0 lane lane none) m)) (sym rested) (names r key slots id lane (resting d me))
+      subst (λ (m : Sat T). Allows (IsTable r key) slots id m 0 (λ n. either (eqb n lane) lane n) (named r (step slots 0 lane lane none) m)) (sym rested) (names r key slots id lane (resting d me))
 
   pub named_is : (lane : ℕ) (d : T) (me me' : Sat T) (n : ℕ) → Rested d me → named r (step 1 0 lane lane none) me n me' → me' ≡ (Sits (record (resting d me) { stage = Names lane }), [])
   named_is lane d me me' n rested h = (subst (λ (m : Sat T). named r (step 1 0 lane lane none) m n me') rested h).0
@@ -139,13 +139,13 @@ module _ {T E O H : Type 0} (r : Log T E O H) (key : T) where
       subst (λ (w : Sitting T). UnsplitFor r w) (sym (rested_view (record { board = b; stamps = z }) d me rested)) (subst (λ (m : Sat T). IsUnsplit r m.0) rested known)
 
   pub splitting : (id lane : ℕ) (d : T) (me me' : Sat T) → me' ≡ (Sits (record (resting d me) { stage = Names lane }), [])
-      → (knows_or d me.0).lane ≡ 0 → lane ≢ 0 → lane < 2 ^ 32 → ¬ Has (knows_or d me.0).splits lane → Splits (Kept r key) id me'.0 (split_left me'.0) (split_right me'.0)
+      → (knows_or d me.0).lane ≡ 0 → lane ≢ 0 → lane < 2 ^ 32 → ¬ Has (knows_or d me.0).splits lane → Splits (IsTable r key) id me'.0 (split_left me'.0) (split_right me'.0)
   splitting id lane d me me' is first some_lane small new =
-      subst (λ (m : Sat T). Splits (Kept r key) id m.0 (split_left m.0) (split_right m.0)) (sym is) (splits r key id lane (resting d me) first some_lane small new)
+      subst (λ (m : Sat T). Splits (IsTable r key) id m.0 (split_left m.0) (split_right m.0)) (sym is) (splits r key id lane (resting d me) first some_lane small new)
 
-  pub merging : (id other : ℕ) (d e : T) (me you : Sat T) → Rested d me → Rested e you → (knows_or d me.0).lane ≡ 0 → Joins (Kept r key) id me.0 other you.0 (joined r me.0 you.0) Spent
+  pub merging : (id other : ℕ) (d e : T) (me you : Sat T) → Rested d me → Rested e you → (knows_or d me.0).lane ≡ 0 → Joins (IsTable r key) id me.0 other you.0 (joined r me.0 you.0) Spent
   merging id other d e me you rested rested' first =
-      subst (λ (m : Sat T × Sat T). Joins (Kept r key) id m.0.0 other m.1.0 (joined r m.0.0 m.1.0) Spent) (λ i. (sym rested i, sym rested' i)) (merges r key id other (resting d me) (resting e you) first)
+      subst (λ (m : Sat T × Sat T). Joins (IsTable r key) id m.0.0 other m.1.0 (joined r m.0.0 m.1.0) Spent) (λ i. (sym rested i, sym rested' i)) (merges r key id other (resting d me) (resting e you) first)
 
   -- the seat that took in another one
   abbrev pub merged_knows : Knows T → Knows T → Knows T
@@ -154,9 +154,9 @@ module _ {T E O H : Type 0} (r : Log T E O H) (key : T) where
   pub merged_is : (d e : T) (me you me' : Sat T) → Rested d me → Rested e you → me' ≡ (joined r me.0 you.0, me.1) → me' ≡ (Sits (merged_knows (resting d me) (resting e you)), [])
   merged_is d e me you me' rested rested' is = is ∙ ap (λ (m : Sat T × Sat T). (joined r m.0.0 m.1.0, m.0.1)) (λ i. (rested i, rested' i))
 
-  pub telling : (slots id : ℕ) (k m : Knows T) (me' : Sat T) → me' ≡ (Sits (merged_knows k m), []) → Allows (Kept r key) slots id me' 0 (λ n. n) (told r (step slots 0 0 0 none) me')
+  pub telling : (slots id : ℕ) (k m : Knows T) (me' : Sat T) → me' ≡ (Sits (merged_knows k m), []) → Allows (IsTable r key) slots id me' 0 (λ n. n) (told r (step slots 0 0 0 none) me')
   telling slots id k m me' is =
-      subst (λ (w : Sat T). Allows (Kept r key) slots id w 0 (λ n. n) (told r (step slots 0 0 0 none) w)) (sym is) (tells r key slots id (merged_knows k m) k.seen m.seen m.lane)
+      subst (λ (w : Sat T). Allows (IsTable r key) slots id w 0 (λ n. n) (told r (step slots 0 0 0 none) w)) (sym is) (tells r key slots id (merged_knows k m) k.seen m.seen m.lane)
 
   -- what contracts say of the value at the end
   pub record ClosesFor (v : Sitting T) (x : T) : Type 0 where
@@ -169,11 +169,11 @@ module _ {T E O H : Type 0} (r : Log T E O H) (key : T) where
     pub untouched : (l : ℕ) → l ≢ 0 → ¬ Has v.splits l → r.held l v.made ≡ r.held l x
 
   pub closing : (z : Lock) (d : T) (id : ℕ) (me : Sat T) (words : List ℕ) (slots : List (Option T)) (got : Option T) → Rested d me → (knows_or d me.0).lane ≡ 0
-      → ((l : ℕ) → Has (knows_or d me.0).splits l → Has (knows_or d me.0).ended l) → Final (Seen (Kept r key) id me.0) words slots → get_elem? slots 0 ≡ some got
+      → ((l : ℕ) → Has (knows_or d me.0).splits l → Has (knows_or d me.0).ended l) → Final (Seen (IsTable r key) id me.0) words slots → get_elem? slots 0 ≡ some got
       → (x : T) × (got ≡ Some x) × ClosesFor (sat z (knows_or d me.0)) x
   closing z d id me words slots got rested first all_joined final there =
       let k : Knows T = resting d me in
-      let f = subst (λ (w : Sat T). Final (Seen (Kept r key) id w.0) words slots) rested final in
+      let f = subst (λ (w : Sat T). Final (Seen (IsTable r key) id w.0) words slots) rested final in
       let c = closes r key id k words slots first all_joined f in
       let b : ClosesFor (sat z k) c.0 = record { origin = c.2.origin; list = c.2.list; since = c.2.since; unsplit = c.2.unsplit; kept = c.2.kept; remains = c.2.remains; untouched = c.2.untouched } in
       (c.0, some-injective got (Some c.0) (sym there ∙ c.1), subst (λ (w : Sitting T). ClosesFor w c.0) (sym (rested_view z d me rested)) b)
@@ -184,7 +184,7 @@ module _ {T E O H : Type 0} (r : Log T E O H) (key : T) where
 
   -- the same, of the value that was taken and of the seat as contracts see it
   pub closed : (z : Lock) (d : T) (id : ℕ) (me : Sat T) (words : List ℕ) (slots : List (Option T)) (got : Option T) (v : Sitting T) (x : T) → Rested d me → (knows_or d me.0).lane ≡ 0
-      → ((l : ℕ) → Has (knows_or d me.0).splits l → Has (knows_or d me.0).ended l) → Final (Seen (Kept r key) id me.0) words slots → get_elem? slots 0 ≡ some got
+      → ((l : ℕ) → Has (knows_or d me.0).splits l → Has (knows_or d me.0).ended l) → Final (Seen (IsTable r key) id me.0) words slots → get_elem? slots 0 ≡ some got
       → sat z (knows_or d me.0) ≡ v → got ≡ Some x → ClosesFor v x
   unfolding some_or
   closed z d id me words slots got v x rested first all_joined final there view is =

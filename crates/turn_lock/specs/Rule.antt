@@ -145,7 +145,7 @@ abbrev pub Differ : {T : Type 0} → Knows T → Knows T → Type 0
 Differ k m = (k.lane ≢ m.lane) × ((t : ℕ) → HasTurn k.stage t → ¬ HasTurn m.stage t)
 
 -- the rule: of the value at make, and of the table
-pub record Kept {T E O H : Type 0} (r : Log T E O H) (key : T) (s : State (Option T) (View T)) : Type 0 where
+pub record IsTable {T E O H : Type 0} (r : Log T E O H) (key : T) (s : State (Option T) (View T)) : Type 0 where
   -- the value at home, or that at which the turn began
   pub cur : T
   -- the turn that is served

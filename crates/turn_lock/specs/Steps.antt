@@ -31,9 +31,9 @@ module _ {T : Type 0} where
   ticket_of (Sits k) = ticket_in k.stage
 
   -- the view after a turn that left the value y
-  abbrev pub settled : View T → T → View T
-  settled Spent y = Spent
-  settled (Sits k) y = Sits (record k { seen = y; kept = y; stage = Rests })
+  abbrev pub after_turn : View T → T → View T
+  after_turn Spent y = Spent
+  after_turn (Sits k) y = Sits (record k { seen = y; kept = y; stage = Rests })
 
   -- the seat has a turn
   abbrev pub took : At T → Sat T → ℕ → Sat T → Type 0
@@ -91,7 +91,7 @@ module _ {T E O H : Type 0} (r : Log T E O H) where
 
   -- the value y is at home, and the next turn is served. The turn began at what it found
   abbrev pub served : At T → Sat T → ℕ → Sat T → Type 0
-  served st m n m' = ((y : T) → m.1 ≡ (0, Some y) ∷ [] → m' ≡ (settled m.0 y, [])) × IsOut m.0
+  served st m n m' = ((y : T) → m.1 ≡ (0, Some y) ∷ [] → m' ≡ (after_turn m.0 y, [])) × IsOut m.0
 
 -- the seat waits with a ticket of this number
 abbrev pub IsWaiting : {T : Type 0} → ℕ → Sat T → Type 0

@@ -48,16 +48,16 @@ pub enum View<T> {
 pub struct Law;
 
 impl<T: Logged> TableRule<Option<T>, View<T>, Snapshot<T>> for Law {
-    ghost use Rattle.turn_lock.specs.Rule.{Kept, log, starting};
+    ghost use Rattle.turn_lock.specs.Rule.{IsTable, log, starting};
 
-    ghost holds = { λ key. Kept (log T.entries T.by T.origin T.held) key.value };
+    ghost holds = { λ key. IsTable (log T.entries T.by T.origin T.held) key.value };
 
     ghost first = { λ key. starting key.value };
 }
 
 pub type Board<T> = Table<Option<T>, View<T>, Snapshot<T>, Law, Global>;
 
-pub type Place<T> = Seat<Option<T>, View<T>>;
+pub type TableSeat<T> = Seat<Option<T>, View<T>>;
 
 /// The rule of the second table: each view is the value at `make`.
 pub struct Same;

@@ -1,10 +1,10 @@
 //! The tokens of the lock.
-use crate::board::{Place, Stamp};
+use crate::board::{TableSeat, Stamp};
 use std::marker::Model;
 
 /// A lane's place at the lock.
 pub struct Seat<T> {
-    pub(crate) place: Place<T>,
+    pub(crate) place: TableSeat<T>,
     pub(crate) stamp: Stamp<T>,
     pub(crate) lane: u32,
 }
@@ -33,7 +33,7 @@ impl<T> Seat<T> {
         self.lane
     }
 
-    pub(crate) fn into_parts(self) -> (Place<T>, Stamp<T>, u32)
+    pub(crate) fn into_parts(self) -> (TableSeat<T>, Stamp<T>, u32)
         ensures rests { Rested result.1.me.0 result.0.me }
         ensures view { sitting result.0.table_id result.1.table_id result.1.me.0 result.0.me.0 ≡ self }
         ensures lane { result.2 ≡ self.lane }
@@ -55,7 +55,7 @@ impl<T> Drop for Seat<T> {
 
 /// A turn, with the value.
 pub struct Inside<T> {
-    pub(crate) place: Place<T>,
+    pub(crate) place: TableSeat<T>,
     pub(crate) stamp: Stamp<T>,
     pub(crate) lane: u32,
     pub(crate) value: T,

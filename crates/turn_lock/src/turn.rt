@@ -6,7 +6,7 @@ ghost use Rattle.turn_lock.specs.Sitting.{Has, first_seat, mine, kept};
 ghost use Rattle.turn_lock.specs.Rule.{log, TakesTurn};
 ghost use Rattle.turn_lock.specs.Steps.{came, IsWaiting};
 
-use crate::board::{Board, Place, Stamps};
+use crate::board::{Board, TableSeat, Stamps};
 use crate::logged::Logged;
 use crate::plays::{Cut, Look, Merge, Name, Serve, Stir, Take, Tell, Twin};
 use crate::seat::{Inside, Seat};
@@ -26,7 +26,7 @@ const BELL: usize = 2;
 const PARKING: usize = 3;
 
 /// How many such words there are.
-const PLACES: u64 = 16;
+const PARKING_WORDS: u64 = 16;
 
 const WORDS: usize = 19;
 
@@ -126,7 +126,7 @@ fn only_slot<T>(mut slots: Vec<Option<T>>) -> T
 fn parking(number: u64) -> usize
     ensures { (1 < result) × (result < 19) }
 {
-    PARKING + (number % PLACES) as usize
+    PARKING + (number % PARKING_WORDS) as usize
 }
 
 impl<T: Logged> Turn<T> {
@@ -165,7 +165,7 @@ impl<T: Logged> Turn<T> {
     }
 
     // Waits until the number is served.
-    fn wait_turn<R: Wait>(&self, rt: &R, place: &mut Place<T>, number: u64)
+    fn wait_turn<R: Wait>(&self, rt: &R, place: &mut TableSeat<T>, number: u64)
         requires lock { place.old.table_id ≡ self.now.board }
         requires waits { IsWaiting number place.old.me }
         ensures same { (place.new.table_id ≡ place.old.table_id) × (place.new.id ≡ place.old.id) }
@@ -253,7 +253,7 @@ impl<T: Logged> Turn<T> {
     }
 
     // The seat's slot is empty, and takes the value.
-    fn put(&self, place: &mut Place<T>, value: T)
+    fn put(&self, place: &mut TableSeat<T>, value: T)
         requires { (place.old.table_id ≡ self.now.board) × (place.old.me.1 ≡ (0, None) ∷ []) }
         ensures { (place.new.table_id ≡ place.old.table_id) × (place.new.id ≡ place.old.id)
             × (place.new.me ≡ (place.old.me.0, (0, Some value) ∷ [])) }
