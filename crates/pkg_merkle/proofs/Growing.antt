@@ -4,7 +4,7 @@ use Rattle.std.proofs.lemmas.List.{take-append-le, drop-append-le, take_all, app
 use Rattle.sha2.specs.Sha256.{sha256}
 use Rattle.pkg_merkle.specs.Merkle.{block, block_input, first_inputs, first_hashes, head}
 use Rattle.pkg_merkle.specs.Hasher.{open_block}
-use Rattle.pkg_merkle.proofs.Laws.{first_hashes-suc}
+use Rattle.pkg_merkle.proofs.RootLemmas.{first_hashes-suc}
 
 -- a whole block stays as bytes are added
 pub block-append : (bytes more : List ℕ) (i : ℕ) → 8192 * suc i ≤ length bytes → block (bytes ++ more) i ≡ block bytes i

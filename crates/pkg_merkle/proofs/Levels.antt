@@ -6,7 +6,7 @@ use Rattle.pkg_merkle.specs.Merkle.{block, block_count, block_input, first_hashe
 use Rattle.pkg_merkle.specs.Hasher.{LevelHolds, TreeHolds, open_block}
 use Rattle.pkg_merkle.specs.declared.level.Level.{Level}
 use Rattle.pkg_merkle.specs.declared.tree.Tree.{Tree}
-use Rattle.pkg_merkle.proofs.Laws.{first_hashes-suc, length-first_hashes}
+use Rattle.pkg_merkle.proofs.RootLemmas.{first_hashes-suc, length-first_hashes}
 use Rattle.pkg_merkle.proofs.Growing.{first_hashes-append}
 
 -- one data block more: `added` is the hash of the block of hashes that it makes whole, or nothing

@@ -1,4 +1,4 @@
-pub mod Laws
+pub mod RootLemmas
 pub mod Growing
 pub mod Levels
 pub mod Feeding

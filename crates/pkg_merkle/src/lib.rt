@@ -3,9 +3,9 @@
 
 mod block;
 mod hasher;
+mod laws;
 mod level;
-#[cfg(test)]
-mod tests;
 mod tree;
 
 pub use hasher::{BYTES_LIMIT, Hasher, TooLong, root_of};
+pub use laws::blobs_have_roots;

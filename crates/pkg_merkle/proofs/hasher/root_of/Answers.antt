@@ -1,6 +1,6 @@
 use Rattle.std.proofs.Common.{ap, sym}
 use Rattle.pkg_names.specs.declared.root.Root.{Root}
-use Rattle.pkg_merkle.proofs.Laws.{HashesLast-merkle_root}
+use Rattle.pkg_merkle.proofs.RootLemmas.{HashesLast-merkle_root}
 use Rattle.pkg_merkle.proofs.hasher.root_of.Goals as goal
 
 pub returns-clause-inputs : goal.returns-clause-inputs

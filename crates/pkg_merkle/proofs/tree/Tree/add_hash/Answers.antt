@@ -1,7 +1,7 @@
 use Rattle.std.proofs.Common.{ℕ, List, [], ◌/◌}
 use Rattle.std.proofs.lemmas.List.{append-nil}
 use Rattle.pkg_merkle.specs.Merkle.{first_hashes}
-use Rattle.pkg_merkle.proofs.Laws.{length-first_hashes}
+use Rattle.pkg_merkle.proofs.RootLemmas.{length-first_hashes}
 use Rattle.pkg_merkle.proofs.Levels.{TreeHolds-more}
 use Rattle.pkg_merkle.proofs.tree.Tree.add_hash.Goals as goal
 

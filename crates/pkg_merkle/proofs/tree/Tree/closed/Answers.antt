@@ -1,6 +1,6 @@
 use Rattle.std.proofs.Common.{ℕ, List, ◌/◌, arith}
 use Rattle.pkg_merkle.specs.Merkle.{first_hashes}
-use Rattle.pkg_merkle.proofs.Laws.{length-first_hashes}
+use Rattle.pkg_merkle.proofs.RootLemmas.{length-first_hashes}
 use Rattle.pkg_merkle.proofs.Levels.{hashes-whole, hashes-open}
 use Rattle.pkg_merkle.proofs.tree.Tree.closed.Goals as goal
 

@@ -1,7 +1,7 @@
 use Rattle.std.proofs.Common.{◌≡◌, ◌≤◌, ◌<◌, ◌*◌, ◌/◌, ℕ, List, length, ap, sym, ◌∙◌, arith}
 use Rattle.pkg_names.specs.declared.root.Root.{Root}
 use Rattle.pkg_merkle.specs.Merkle.{block_count, first_hashes, hashes}
-use Rattle.pkg_merkle.proofs.Laws.{length-first_hashes, hashes-one, merkle_root-no_level, merkle_root-one_level, merkle_root-two_levels}
+use Rattle.pkg_merkle.proofs.RootLemmas.{length-first_hashes, hashes-one, merkle_root-no_level, merkle_root-one_level, merkle_root-two_levels}
 use Rattle.pkg_merkle.proofs.Levels.{LevelHolds-last, open_block-short}
 use Rattle.pkg_merkle.proofs.tree.Tree.root.Goals as goal
 

@@ -1,0 +1,11 @@
+//! Laws of the Merkle root. Their functions do nothing.
+
+ghost use Rattle.std.specs.Prelude.{◌≡◌, List, ℕ};
+ghost use Rattle.pkg_names.specs.Root.{IsRoot};
+ghost use Rattle.pkg_merkle.specs.Merkle.{merkle_root, inputs, HashesLast};
+
+/// The Merkle root of any bytes is a list of 32 bytes, and the SHA-256 of the last input.
+pub fn blobs_have_roots()
+    ensures root { (bytes : List ℕ) → IsRoot (merkle_root bytes) }
+    ensures inputs { (bytes : List ℕ) → HashesLast (inputs bytes) (merkle_root bytes).0 }
+{}
