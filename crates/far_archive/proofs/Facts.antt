@@ -5,13 +5,14 @@ use Rattle.std.specs.Ordering.{nat_cmp}
 use Rattle.std.specs.Cmp.Lexicographic.{slice_cmp}
 use Rattle.std.specs.Int.{w64}
 use Rattle.pkg_names.specs.FileText.{IsFile}
-use Rattle.far_archive.specs.Fields.{part, number, places, entry_of, name_of, end_of, names_end}
+use Rattle.pkg_names.specs.Numbers.{number_at}
+use Rattle.far_archive.specs.Fields.{part, places, entry_of, name_of, end_of, names_end}
 use Rattle.far_archive.specs.Faults.{name_before, floor}
 
 -- the index: two entries, of the directory and of the names, which lie one behind the other within the file
 pub record HasIndex (text : List ℕ) : Type 0 where
   pub long : 64 ≤ length text
-  pub two_entries : number w64 text 8 ≡ 48
+  pub two_entries : number_at w64 text 8 ≡ 48
   pub first : part text 16 8 ≡ codes "DIR-----"
   pub second : part text 40 8 ≡ codes "DIRNAMES"
   pub dir_at : (places text).dir_at % 8 ≡ 0

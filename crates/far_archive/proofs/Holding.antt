@@ -2,6 +2,10 @@
 use Rattle.std.proofs.Common.{◌≡◌, ℕ, zero, suc, ◌+◌, ◌*◌, ◌^◌, ◌<◌, ◌≤◌, Bool, true, false, cond, List, ◌∷◌, ◌++◌, length, map, All, Option, Some, None, refl, sym, ap, subst, ◌∙◌, arith}
 use Rattle.std.specs.List.{flat_map, range_with_len}
 use Rattle.std.specs.Int.{w16, w32, w64, to_le_bytes}
+use Rattle.std.specs.declared.cmp.Ordering.TheVariants.{Less}
+use Rattle.std.specs.Ordering.{nat_cmp}
+use Rattle.std.specs.Cmp.Lexicographic.{slice_cmp}
+use Rattle.std.proofs.lemmas.Bool.{and_parts, leb-true}
 use Rattle.std.proofs.lemmas.List.Elements.{All-nil, All-cons}
 use Rattle.far_archive.specs.declared.fault.FarFault.{FarFault}
 use Rattle.far_archive.specs.declared.fault.FarFault.TheVariants.{Name, Range}
@@ -9,7 +13,7 @@ use Rattle.far_archive.specs.Fields.{AreBytes, part, places, entry, entry_of, na
 use Rattle.far_archive.specs.Faults.{has_name, has_range, name_before, floor, or_else, entry_fault, entries_fault}
 use Rattle.far_archive.specs.Archive.{Item, IsItem, Ascend, item_bytes, file_of}
 use Rattle.far_archive.proofs.Facts.{HasName, HasRange}
-use Rattle.far_archive.proofs.Decided.{has_name-Decides, has_range-Decides}
+use Rattle.far_archive.proofs.Decided.{FilesAreTested, Decides-is_lt, has_name-Decides, has_range-Decides}
 use Rattle.far_archive.proofs.Parts.{part-part, part-join, length-part, number_below, wide32}
 use Rattle.far_archive.proofs.Items.{entry_written}
 use Rattle.far_archive.proofs.Loop.{after_one}
@@ -23,11 +27,24 @@ both true true n r e = (refl, refl)
 both true false n r e = absurd cc
 both false b n r e = absurd cc
 
-pub faultless : (text : List ℕ) (k : ℕ) → entry_fault text k ≡ None → HasName text k × HasRange text k
+pub faultless : FilesAreTested → (text : List ℕ) (k : ℕ) → entry_fault text k ≡ None → HasName text k × HasRange text k
 unfolding entry_fault
-faultless text k e =
+faultless tested text k e =
     let h = both (has_name text k) (has_range text k) (Name k) (Range k) e in
-    ((has_name-Decides text k).0 h.0, (has_range-Decides text k).0 h.1)
+    ((has_name-Decides tested text k).0 h.0, (has_range-Decides text k).0 h.1)
+
+-- the name of entry k lies within the names and is greater than the one before
+pub record HasPlace (text : List ℕ) (k : ℕ) : Type 0 where
+  pub inside : (entry_of text k).name_at + (entry_of text k).name_len ≤ (places text).names_len
+  pub greater : slice_cmp nat_cmp (name_before text k) (name_of text k) ≡ Less
+
+pub placed : (text : List ℕ) (k : ℕ) → entry_fault text k ≡ None → HasPlace text k × HasRange text k
+unfolding entry_fault has_name
+placed text k e =
+    let h = both (has_name text k) (has_range text k) (Name k) (Range k) e in
+    let tests = and_parts _ _ h.0 in
+    let front = and_parts _ _ (and_parts _ _ tests.0).0 in
+    (record { inside = leb-true _ _ front.0; greater = (Decides-is_lt _).0 tests.1 }, (has_range-Decides text k).0 h.1)
 
 -- the item of entry k
 abbrev pub item_of : List ℕ → ℕ → Item
@@ -41,7 +58,7 @@ name_at_fits : (text : List ℕ) (at : ℕ) → AreBytes text → (entry text at
 unfolding entry
 name_at_fits text at fits = number_below w32 (2 ^ 32) wide32 text at fits
 
-module _ (text : List ℕ) (fits : AreBytes text) (inside : names_end text ≤ length text) where
+module _ (tested : FilesAreTested) (text : List ℕ) (fits : AreBytes text) (inside : names_end text ≤ length text) where
   abbrev names : List ℕ
   names = part text (places text).names_at (places text).names_len
 
@@ -90,7 +107,7 @@ module _ (text : List ℕ) (fits : AreBytes text) (inside : names_end text ≤ l
   writing (suc n) k le none =
       let at = (places text).dir_at + 32 * k in
       let here = neither (entry_fault text k) (entries_fault text (k + 1) n) none in
-      let good = faultless text k here.0 in
+      let good = faultless tested text k here.0 in
       let others = writing n (k + 1) (omega arith) here.1 in
       let first = written k good.0 good.1 (omega arith) in
       let next : (places text).dir_at + 32 * (k + 1) ≡ at + 32 = omega arith in

@@ -15,7 +15,7 @@ use Rattle.far_archive.specs.Fields.{AreBytes, part, places, count, name_of, dat
 use Rattle.far_archive.specs.Faults.{magic, has_magic, has_index, has_directory, entries_fault, index_fault, first_fault}
 use Rattle.far_archive.specs.Archive.{Item, Ascend, Holds, IsArchive, HasAscendingNames, item_bytes, index_bytes, file_of}
 use Rattle.far_archive.proofs.Facts.{HasIndex}
-use Rattle.far_archive.proofs.Decided.{has_magic-Decides, has_index-Decides, has_directory-Decides}
+use Rattle.far_archive.proofs.Decided.{FilesAreTested, has_magic-Decides, has_index-Decides, has_directory-Decides}
 use Rattle.far_archive.proofs.Parts.{part-part, number_again, wide64}
 use Rattle.far_archive.proofs.Items.{places_read, index_written}
 use Rattle.far_archive.proofs.Standing.{Reading, reading, length-directory}
@@ -45,7 +45,7 @@ faultless_index text good = rw ((has_magic-Decides text).1 good.magic, (has_inde
 
 -- ---- what holds items has no fault, and one list
 
-module _ (text : List ℕ) (p : Places) (items : List Item) (holds : Holds text p items) where
+module _ (tested : FilesAreTested) (text : List ℕ) (p : Places) (items : List Item) (holds : Holds text p items) where
   front : part text 0 64 ≡ index_bytes p
   front = holds.index.same
 
@@ -77,11 +77,11 @@ module _ (text : List ℕ) (p : Places) (items : List Item) (holds : Holds text 
   counted : count text ≡ length items
   counted = omega (arith, here.dir_len)
 
-  read : Reading text holds.short here.inside 0 items
+  read : Reading tested text holds.short here.inside 0 items
   read =
       let at : (places text).dir_at + 32 * 0 ≡ (places text).dir_at = omega arith in
       let there = ap (λ (n : ℕ). part text n (32 * length items)) at ∙ ap (λ (n : ℕ). part text (places text).dir_at n) (sym (length-directory items)) ∙ here.directory.same in
-      reading text holds.short here.inside items 0 [] (names_end text) there here.each refl refl (omega arith) here.ascend
+      reading tested text holds.short here.inside items 0 [] (names_end text) there here.each refl refl (omega arith) here.ascend
 
   pub none : first_fault text ≡ None
   unfolding first_fault
@@ -90,24 +90,24 @@ module _ (text : List ℕ) (p : Places) (items : List Item) (holds : Holds text 
   pub one : map file_of items ≡ files text
   one = sym (ap (λ (n : ℕ). map (λ j. (name_of text j, data_of text j)) (range_with_len 0 n)) counted ∙ read.same)
 
-pub has_no_fault : (text : List ℕ) (list : List (List ℕ × List ℕ)) → IsArchive text list → first_fault text ≡ None
-has_no_fault text list is = none text is.0 is.1 is.2
+pub has_no_fault : FilesAreTested → (text : List ℕ) (list : List (List ℕ × List ℕ)) → IsArchive text list → first_fault text ≡ None
+has_no_fault tested text list is = none tested text is.0 is.1 is.2
 
-pub has_one_list : (text : List ℕ) (list : List (List ℕ × List ℕ)) → IsArchive text list → list ≡ files text
-has_one_list text list is = is.3 ∙ one text is.0 is.1 is.2
+pub has_one_list : FilesAreTested → (text : List ℕ) (list : List (List ℕ × List ℕ)) → IsArchive text list → list ≡ files text
+has_one_list tested text list is = is.3 ∙ one tested text is.0 is.1 is.2
 
 -- ---- what has no fault holds the items of its directory
 
-pub stands : (text : List ℕ) → AreBytes text → length text < 2 ^ 64 → first_fault text ≡ None → IsArchive text (files text)
+pub stands : FilesAreTested → (text : List ℕ) → AreBytes text → length text < 2 ^ 64 → first_fault text ≡ None → IsArchive text (files text)
 unfolding first_fault
-stands text fits short e =
+stands tested text fits short e =
     let parts = neither (index_fault text) (entries_fault text 0 (count text)) e in
     let good = good_index text parts.0 in
     let p = places text in
     let items = items_from text 0 (count text) in
     let size : length items ≡ count text = length-map-range_with_len _ 0 (count text) in
     let total : p.dir_len ≡ 32 * length items = omega (arith, good.whole, size) in
-    let w = writing text fits good.index.inside (count text) 0 (omega (arith, good.whole, good.index.order, good.index.inside)) parts.1 in
+    let w = writing tested text fits good.index.inside (count text) 0 (omega (arith, good.whole, good.index.order, good.index.inside)) parts.1 in
     let at : p.dir_at + 32 * 0 ≡ p.dir_at = omega arith in
     let len : length (flat_map item_bytes items) ≡ 32 * count text = omega (arith, length-directory items, size) in (
       p,

@@ -15,8 +15,8 @@ use Rattle.far_archive.specs.declared.fields.Places.{Places}
 use Rattle.far_archive.specs.Fields.{entry_of, count, name_of, data_of, files}
 use Rattle.far_archive.specs.Faults.{index_fault, entry_fault, entries_fault, first_fault}
 use Rattle.far_archive.specs.Kept.{Keeps}
-use Rattle.far_archive.proofs.Facts.{HasName, HasRange}
-use Rattle.far_archive.proofs.Holding.{neither, faultless}
+use Rattle.far_archive.proofs.Facts.{HasRange}
+use Rattle.far_archive.proofs.Holding.{neither, HasPlace, placed}
 use Rattle.far_archive.proofs.Law.{GoodIndex, good_index}
 
 each_faultless : (text : List ℕ) (n k j : ℕ) → entries_fault text k n ≡ None → k ≤ j → j < k + n → entry_fault text j ≡ None
@@ -34,14 +34,14 @@ each_faultless text (suc n) k j none low high =
 -- the index and the entries of a text without a fault
 pub record Sound (text : List ℕ) : Type 0 where
   pub index : GoodIndex text
-  pub names : (k : ℕ) → k < count text → HasName text k
+  pub names : (k : ℕ) → k < count text → HasPlace text k
   pub ranges : (k : ℕ) → k < count text → HasRange text k
 
 pub sound : (text : List ℕ) → first_fault text ≡ None → Sound text
 unfolding first_fault
 sound text e =
     let parts = neither (index_fault text) (entries_fault text 0 (count text)) e in
-    let each = λ (k : ℕ) (lt : k < count text). faultless text k (each_faultless text (count text) 0 k parts.1 (omega arith) (omega arith)) in
+    let each = λ (k : ℕ) (lt : k < count text). placed text k (each_faultless text (count text) 0 k parts.1 (omega arith) (omega arith)) in
     record { index = good_index text parts.0; names = λ k lt. (each k lt).0; ranges = λ k lt. (each k lt).1 }
 
 -- the entry lies within the directory

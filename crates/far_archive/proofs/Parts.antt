@@ -4,7 +4,9 @@ use Rattle.std.specs.Int.{Width, w16, w32, w64, byte_len, to_le_bytes, from_le_b
 use Rattle.std.proofs.lemmas.Bool.{cases_lt}
 use Rattle.std.proofs.lemmas.List.{take-take, drop-take, drop-drop, take-append-drop, length-take, length-drop, get_or-take, get_or-drop, get_or_past}
 use Rattle.std.proofs.lemmas.Nat.{le_bytes_2, le_bytes_4, le_bytes_8, from_le_bytes-to_le_bytes_2, from_le_bytes-to_le_bytes_4, from_le_bytes-to_le_bytes_8}
-use Rattle.far_archive.specs.Fields.{AreBytes, part, number}
+use Rattle.pkg_names.specs.Numbers.{number_at}
+use Rattle.pkg_names.proofs.NumberParts.{number_at-part}
+use Rattle.far_archive.specs.Fields.{AreBytes, part}
 
 pub AreBytes-part : (text : List ℕ) (at len : ℕ) → AreBytes text → AreBytes (part text at len)
 AreBytes-part text at len h i =
@@ -66,18 +68,15 @@ wide64 = record {
 }
 
 -- what is read is what is written there
-pub number_back : (w : Width) (limit : ℕ) (wide : IsWide w limit) (text : List ℕ) (at : ℕ) → AreBytes text → at + byte_len w ≤ length text → to_le_bytes w (number w text at) ≡ part text at (byte_len w)
-unfolding number
-number_back w limit wide text at fits le = wide.back (part text at (byte_len w)) (length-part text at (byte_len w) le) (AreBytes-part text at (byte_len w) fits)
+pub number_back : (w : Width) (limit : ℕ) (wide : IsWide w limit) (text : List ℕ) (at : ℕ) → AreBytes text → at + byte_len w ≤ length text → to_le_bytes w (number_at w text at) ≡ part text at (byte_len w)
+number_back w limit wide text at fits le = ap (to_le_bytes w) (number_at-part w text at) ∙ wide.back (part text at (byte_len w)) (length-part text at (byte_len w) le) (AreBytes-part text at (byte_len w) fits)
 
-pub number_below : (w : Width) (limit : ℕ) (wide : IsWide w limit) (text : List ℕ) (at : ℕ) → AreBytes text → number w text at < limit
-unfolding number
-number_below w limit wide text at fits = wide.below (part text at (byte_len w)) (AreBytes-part text at (byte_len w) fits)
+pub number_below : (w : Width) (limit : ℕ) (wide : IsWide w limit) (text : List ℕ) (at : ℕ) → AreBytes text → number_at w text at < limit
+number_below w limit wide text at fits = rw (number_at-part w text at) (wide.below (part text at (byte_len w)) (AreBytes-part text at (byte_len w) fits))
 
 -- what is written there is read, where a part of the text has these bytes
 pub number_again : (w : Width) (limit : ℕ) (wide : IsWide w limit) (text : List ℕ) (at len from n : ℕ) (bytes : List ℕ) → n < limit → from + byte_len w ≤ len
-    → part text at len ≡ bytes → part bytes from (byte_len w) ≡ to_le_bytes w n → number w text (at + from) ≡ n
-unfolding number
+    → part text at len ≡ bytes → part bytes from (byte_len w) ≡ to_le_bytes w n → number_at w text (at + from) ≡ n
 number_again w limit wide text at len from n bytes lt le is cell =
     let there : part text (at + from) (byte_len w) ≡ to_le_bytes w n = sym (part-part text at len from (byte_len w) le) ∙ ap (λ (l : List ℕ). part l from (byte_len w)) is ∙ cell in
-    ap (from_le_bytes w) there ∙ wide.again n lt
+    number_at-part w text (at + from) ∙ ap (from_le_bytes w) there ∙ wide.again n lt

@@ -12,7 +12,7 @@ use Rattle.far_archive.specs.Fields.{part, places, entry_of, name_of, data_of, e
 use Rattle.far_archive.specs.Faults.{name_before, floor, entry_fault, entries_fault}
 use Rattle.far_archive.specs.Archive.{Item, IsItem, Ascend, item_bytes, file_of}
 use Rattle.far_archive.proofs.Facts.{HasName, HasRange}
-use Rattle.far_archive.proofs.Decided.{has_name-Decides, has_range-Decides}
+use Rattle.far_archive.proofs.Decided.{FilesAreTested, has_name-Decides, has_range-Decides}
 use Rattle.far_archive.proofs.Parts.{part-part, length-part}
 use Rattle.far_archive.proofs.Items.{entry_for, entry_reads}
 use Rattle.far_archive.proofs.Loop.{after_one}
@@ -30,11 +30,11 @@ pub length-directory : (items : List Item) → length (flat_map item_bytes items
 length-directory [] = refl
 length-directory (i ∷ items) = omega (arith, length-append (item_bytes i) (flat_map item_bytes items), length-directory items)
 
-no_fault : (text : List ℕ) (k : ℕ) → HasName text k → HasRange text k → entry_fault text k ≡ None
+no_fault : FilesAreTested → (text : List ℕ) (k : ℕ) → HasName text k → HasRange text k → entry_fault text k ≡ None
 unfolding entry_fault
-no_fault text k name range = rw ((has_name-Decides text k).1 name, (has_range-Decides text k).1 range) refl
+no_fault tested text k name range = rw ((has_name-Decides tested text k).1 name, (has_range-Decides text k).1 range) refl
 
-module _ (text : List ℕ) (short : length text < 2 ^ 64) (inside : names_end text ≤ length text) where
+module _ (tested : FilesAreTested) (text : List ℕ) (short : length text < 2 ^ 64) (inside : names_end text ≤ length text) where
   abbrev names : List ℕ
   names = part text (places text).names_at (places text).names_len
 
@@ -93,7 +93,7 @@ module _ (text : List ℕ) (short : length text < 2 ^ 64) (inside : names_end te
       let next : (places text).dir_at + 32 * (k + 1) ≡ at + 32 = omega arith in
       let rest : part text ((places text).dir_at + 32 * (k + 1)) (32 * length items) ≡ flat_map item_bytes items =
       ap (λ (n : ℕ). part text n (32 * length items)) next ∙ rest_of text at (32 * length items) (item_bytes i) (flat_map item_bytes items) whole refl (length-directory items) in
-      let none = no_fault text k (good_name k i name is says before ascend.0) (good_range k i end is says start ascend.1 behind) in
+      let none = no_fault tested text k (good_name k i name is says before ascend.0) (good_range k i end is says start ascend.1 behind) in
       let after = after_one text k in
       let ends : end_of text k ≡ i.data_at + length i.bytes = ap (λ (x : Entry). x.data_at + x.data_len) says.entry in
       let others = reading items (k + 1) i.name (i.data_at + length i.bytes) rest (All-tail (IsItem text names) i items each) (after.0 ∙ says.name) (after.1 ∙ ends) (omega arith) ascend.2 in

@@ -46,7 +46,8 @@ pub record IsItem (text names : List ℕ) (i : Item) : Type 0 where
 -- each name is greater than the one before it, and each file lies behind the one before it
 abbrev pub Ascend : List ℕ → ℕ → List Item → Type 0
 Ascend name end [] = Unit {0}
-Ascend name end (i ∷ items) = (slice_cmp nat_cmp name i.name ≡ Less) × (end ≤ i.data_at) × Ascend i.name (i.data_at + length i.bytes) items
+Ascend name end (i ∷ items) =
+    (slice_cmp nat_cmp name i.name ≡ Less) × (end ≤ i.data_at) × Ascend i.name (i.data_at + length i.bytes) items
 
 -- The text has the index of these places, the directory of these items, and their names and bytes. The
 -- chunks lie one behind the other, and the files behind them.

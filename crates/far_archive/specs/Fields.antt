@@ -1,7 +1,8 @@
 -- The numbers of an archive at their places, and what its directory names by them.
 use Rattle.std.specs.Prelude.{ℕ, ◌+◌, ◌*◌, ◌/◌, ◌<◌, List, take, drop, map, slice_index}
 use Rattle.std.specs.List.{range_with_len}
-use Rattle.std.specs.Int.{Width, w16, w32, w64, byte_len, from_le_bytes}
+use Rattle.std.specs.Int.{w16, w32, w64}
+use Rattle.pkg_names.specs.Numbers.{number_at}
 use Rattle.far_archive.specs.declared.fields.Places.{Places}
 use Rattle.far_archive.specs.declared.fields.Entry.{Entry}
 
@@ -13,28 +14,24 @@ AreBytes text = (i : ℕ) → slice_index text i < 256
 abbrev pub part : List ℕ → ℕ → ℕ → List ℕ
 part text at len = take len (drop at text)
 
--- the little-endian number at a place
-unfoldable pub number : Width → List ℕ → ℕ → ℕ
-number w text at = from_le_bytes w (part text at (byte_len w))
-
 -- where the two chunks lie: the second and third word of each index entry
 unfoldable pub places : List ℕ → Places
 places text = record {
-  dir_at = number w64 text 24;
-  dir_len = number w64 text 32;
-  names_at = number w64 text 48;
-  names_len = number w64 text 56;
+  dir_at = number_at w64 text 24;
+  dir_len = number_at w64 text 32;
+  names_at = number_at w64 text 48;
+  names_len = number_at w64 text 56;
 }
 
 -- the directory entry at a place
 unfoldable pub entry : List ℕ → ℕ → Entry
 entry text at = record {
-  name_at = number w32 text at;
-  name_len = number w16 text (at + 4);
-  name_zero = number w16 text (at + 6);
-  data_at = number w64 text (at + 8);
-  data_len = number w64 text (at + 16);
-  end_zero = number w64 text (at + 24);
+  name_at = number_at w32 text at;
+  name_len = number_at w16 text (at + 4);
+  name_zero = number_at w16 text (at + 6);
+  data_at = number_at w64 text (at + 8);
+  data_len = number_at w64 text (at + 16);
+  end_zero = number_at w64 text (at + 24);
 }
 
 -- how many entries the directory has

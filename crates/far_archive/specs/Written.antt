@@ -38,7 +38,8 @@ places_for files = record {
 abbrev pub items_from : List (List ℕ × List ℕ) → ℕ → ℕ → List Item
 items_from [] name_at data_at = []
 items_from (file ∷ files) name_at data_at =
-    record { name_at = name_at; name = file.0; data_at = data_at; bytes = file.1 } ∷ items_from files (name_at + length file.0) (data_at + up_to 4096 (length file.1))
+    record { name_at = name_at; name = file.0; data_at = data_at; bytes = file.1 }
+    ∷ items_from files (name_at + length file.0) (data_at + up_to 4096 (length file.1))
 
 -- the data begin on the first page behind the names
 abbrev pub data_start : List (List ℕ × List ℕ) → ℕ
@@ -50,16 +51,22 @@ items_for files = items_from files 0 (data_start files)
 -- index, directory and names, with zeros up to a page, and then the files, each with zeros up to a page
 unfoldable pub written : List (List ℕ × List ℕ) → List ℕ
 written files =
-    filled 4096 (index_bytes (places_for files) ++ flat_map item_bytes (items_for files) ++ filled 8 (joined_names files))
+    filled 4096 (index_bytes (places_for files) ++ flat_map item_bytes (items_for files)
+    ++ filled 8 (joined_names files))
     ++ flat_map (λ file. filled 4096 file.1) files
+
+-- the name of entry k
+abbrev pub name_in : List (List ℕ × List ℕ) → ℕ → List ℕ
+name_in files k = (slice_index_or files k ([], [])).0
 
 -- the first entry whose name isn't greater than the one before
 pub record IsFirstUnordered (files : List (List ℕ × List ℕ)) (k : ℕ) : Type 0 where
   pub later : 0 < k
   pub within : k < length files
-  pub not_greater : slice_cmp nat_cmp (slice_index_or files (k - 1) ([], [])).0 (slice_index_or files k ([], [])).0 ≢ Less
-  pub first : (j : ℕ) → j + 1 < k → slice_cmp nat_cmp (slice_index_or files j ([], [])).0 (slice_index_or files (j + 1) ([], [])).0 ≡ Less
+  pub not_greater : slice_cmp nat_cmp (name_in files (k - 1)) (name_in files k) ≢ Less
+  pub first : (j : ℕ) → j + 1 < k → slice_cmp nat_cmp (name_in files j) (name_in files (j + 1)) ≡ Less
 
 -- each name is greater than the one before
 abbrev pub IsOrdered : List (List ℕ × List ℕ) → Type 0
-IsOrdered files = (j : ℕ) → j + 1 < length files → slice_cmp nat_cmp (slice_index_or files j ([], [])).0 (slice_index_or files (j + 1) ([], [])).0 ≡ Less
+IsOrdered files =
+    (j : ℕ) → j + 1 < length files → slice_cmp nat_cmp (name_in files j) (name_in files (j + 1)) ≡ Less

@@ -11,6 +11,7 @@ ghost use Rattle.far_archive.specs.Named.{file_named};
 use crate::fault::FarFault;
 use crate::fields::{Entry, Places, entry_at, places_of};
 use crate::judging::first_fault;
+use pkg_names::files_are_tested;
 use std::cmp::Ordering;
 use std::marker::Model;
 
@@ -139,8 +140,11 @@ impl Archive {
 
 /// Each text of bytes stands for one list of files, or has one first fault, and never both.
 pub fn texts_stand_or_have_a_fault()
-    ensures stands { (text : List ℕ) → AreBytes text → length text < 2 ^ 64 → first_fault text ≡ None → IsArchive text (files text) }
+    ensures stands { (text : List ℕ) → AreBytes text → length text < 2 ^ 64 → first_fault text ≡ None
+        → IsArchive text (files text) }
     ensures one { (text : List ℕ) (list : List (List ℕ × List ℕ)) → IsArchive text list → list ≡ files text }
     ensures no_fault { (text : List ℕ) (list : List (List ℕ × List ℕ)) → IsArchive text list → first_fault text ≡ None }
     ensures ascend { (text : List ℕ) (list : List (List ℕ × List ℕ)) → IsArchive text list → HasAscendingNames list }
-{}
+{
+    files_are_tested();
+}

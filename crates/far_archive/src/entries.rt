@@ -12,7 +12,8 @@ use pkg_names::is_file;
 // The name of an entry, if it lies within the names.
 fn name_within<'a>(bytes: &'a [u8], p: &Places, e: &Entry) -> Option<&'a [u8]>
     requires { p.now.names_at + p.now.names_len ≤ length bytes.now }
-    ensures found { IfSome result (λ name. (nat_le (e.now.name_at + e.now.name_len) p.now.names_len ≡ true) × (name.now ≡ part bytes.now (p.now.names_at + e.now.name_at) e.now.name_len)) }
+    ensures found { IfSome result (λ name. (nat_le (e.now.name_at + e.now.name_len) p.now.names_len ≡ true)
+        × (name.now ≡ part bytes.now (p.now.names_at + e.now.name_at) e.now.name_len)) }
     ensures none { IfNone result (nat_le (e.now.name_at + e.now.name_len) p.now.names_len ≡ false) }
 {
     let len = u64::from(e.name_len);
@@ -67,7 +68,7 @@ struct Before<'a> {
 
 // The fault of entry k, or what it says of the next one.
 #[tactic(auto, unfolding(crate::specs::Faults::entry_fault))]
-fn judged<'a>(
+fn after_entry<'a>(
     bytes: &'a [u8],
     p: &Places,
     before: Before<'a>,
@@ -78,7 +79,8 @@ fn judged<'a>(
     requires directory { p.now.dir_at + 32 * k + 32 ≤ length bytes.now }
     requires before { before.name.now ≡ name_before bytes.now k }
     requires start { before.end ≡ floor bytes.now k }
-    ensures found { IfOk result (λ after. (entry_fault bytes.now k ≡ None) × (after.name.now ≡ name_of bytes.now k) × (after.end ≡ end_of bytes.now k)) }
+    ensures found { IfOk result (λ after. (entry_fault bytes.now k ≡ None)
+        × (after.name.now ≡ name_of bytes.now k) × (after.end ≡ end_of bytes.now k)) }
     ensures fault { IfErr result (λ fault. entry_fault bytes.now k ≡ Some fault) }
 {
     let at = p.dir_at as usize + 32 * k as usize;
@@ -108,7 +110,7 @@ pub fn entries_fault(bytes: &[u8], p: &Places) -> Option<FarFault>
         end: p.names_at + p.names_len,
     };
     for k in 0..(p.dir_len / 32) as u32 {
-        match judged(bytes, p, before, k) {
+        match after_entry(bytes, p, before, k) {
             Ok(after) => before = after,
             Err(fault) => return Some(fault),
         }

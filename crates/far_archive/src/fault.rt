@@ -3,7 +3,7 @@
 ghost use Rattle.std.specs.Prelude.{◌≡◌};
 ghost use Rattle.far_archive.specs.declared.fault.WriteFault.TheVariants.{NoMemory};
 
-use std::alloc::{AllocError, AllocFailed};
+use std::alloc::AllocError;
 
 /// What is wrong with an archive: the first fault in the order of `docs/archive.md`. Entries are
 /// counted from 0.
@@ -28,14 +28,6 @@ impl From<AllocError> for WriteFault {
     ghost from_gives = { λ _ e. e ≡ NoMemory };
 
     fn from(_e: AllocError) -> WriteFault {
-        WriteFault::NoMemory
-    }
-}
-
-impl<T: Drop> From<AllocFailed<T>> for WriteFault {
-    ghost from_gives = { λ _ e. e ≡ NoMemory };
-
-    fn from(_e: AllocFailed<T>) -> WriteFault {
         WriteFault::NoMemory
     }
 }

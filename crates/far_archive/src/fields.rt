@@ -1,8 +1,9 @@
 //! The numbers of an archive at their places.
 
 ghost use Rattle.std.specs.Prelude.{◌≡◌, ◌+◌, ◌≤◌, length};
-ghost use Rattle.std.specs.Int.{w16, w32, w64};
-ghost use Rattle.far_archive.specs.Fields.{number, places, entry};
+ghost use Rattle.far_archive.specs.Fields.{places, entry};
+
+use pkg_names::numbers::{u16_at, u32_at, u64_at};
 
 /// Where the directory and the names lie.
 #[derive(Clone, Copy, Debug)]
@@ -22,35 +23,6 @@ pub struct Entry {
     pub data_at: u64,
     pub data_len: u64,
     pub end_zero: u64,
-}
-
-#[tactic(auto, unfolding(crate::specs::Fields::number))]
-fn u16_at(bytes: &[u8], at: usize) -> u16
-    requires { at + 2 ≤ length bytes.now }
-    ensures { result ≡ number w16 bytes.now at }
-{
-    let cells = &bytes[at..at + 2];
-    u16::from_le_bytes([cells[0], cells[1]])
-}
-
-#[tactic(auto, unfolding(crate::specs::Fields::number))]
-fn u32_at(bytes: &[u8], at: usize) -> u32
-    requires { at + 4 ≤ length bytes.now }
-    ensures { result ≡ number w32 bytes.now at }
-{
-    let cells = &bytes[at..at + 4];
-    u32::from_le_bytes([cells[0], cells[1], cells[2], cells[3]])
-}
-
-#[tactic(auto, unfolding(crate::specs::Fields::number))]
-pub fn u64_at(bytes: &[u8], at: usize) -> u64
-    requires { at + 8 ≤ length bytes.now }
-    ensures { result ≡ number w64 bytes.now at }
-{
-    let cells = &bytes[at..at + 8];
-    u64::from_le_bytes([
-        cells[0], cells[1], cells[2], cells[3], cells[4], cells[5], cells[6], cells[7],
-    ])
 }
 
 #[tactic(auto, unfolding(crate::specs::Fields::places))]

@@ -7,7 +7,9 @@ ghost use Rattle.far_archive.specs.Faults.{has_magic, has_types, is_aligned, is_
 
 use crate::entries::entries_fault;
 use crate::fault::FarFault;
-use crate::fields::{Places, places_of, u64_at};
+use crate::fields::{Places, places_of};
+use pkg_names::files_are_tested;
+use pkg_names::numbers::u64_at;
 
 pub const MAGIC: [u8; 8] = [0xc8, 0xbf, 0x0b, 0x48, 0xad, 0xab, 0xc5, 0x11];
 
@@ -57,7 +59,8 @@ fn is_inside(p: &Places, len: u64) -> bool
 fn has_index(bytes: &[u8]) -> bool
     ensures value { result ≡ has_index bytes.now }
     ensures long { IsTrue result → 64 ≤ length bytes.now }
-    ensures order { IsTrue result → (places bytes.now).dir_at + (places bytes.now).dir_len ≤ (places bytes.now).names_at }
+    ensures order { IsTrue result
+        → (places bytes.now).dir_at + (places bytes.now).dir_len ≤ (places bytes.now).names_at }
     ensures inside { IsTrue result → names_end bytes.now ≤ length bytes.now }
 {
     if bytes.len() < 64 {
@@ -71,7 +74,8 @@ fn has_index(bytes: &[u8]) -> bool
 fn index_fault(bytes: &[u8]) -> Option<FarFault>
     ensures value { result ≡ index_fault bytes.now }
     ensures long { IfNone result (64 ≤ length bytes.now) }
-    ensures order { IfNone result ((places bytes.now).dir_at + (places bytes.now).dir_len ≤ (places bytes.now).names_at) }
+    ensures order { IfNone result ((places bytes.now).dir_at + (places bytes.now).dir_len
+        ≤ (places bytes.now).names_at) }
     ensures inside { IfNone result (names_end bytes.now ≤ length bytes.now) }
 {
     if !has_magic(bytes) {
@@ -86,8 +90,9 @@ fn index_fault(bytes: &[u8]) -> Option<FarFault>
     None
 }
 
+// The same without what a text is that has none.
 #[tactic(auto, unfolding(crate::specs::Faults::first_fault))]
-fn judged(bytes: &[u8]) -> Option<FarFault>
+fn fault_of(bytes: &[u8]) -> Option<FarFault>
     requires { length bytes.now < 2 ^ 32 }
     ensures value { result ≡ first_fault bytes.now }
     ensures long { IfNone result (64 ≤ length bytes.now) }
@@ -105,5 +110,6 @@ pub fn first_fault(bytes: &[u8]) -> Option<FarFault>
     ensures long { IfNone result (64 ≤ length bytes.now) }
     ensures stands { IfNone result (IsArchive bytes.now (files bytes.now)) }
 {
-    judged(bytes)
+    files_are_tested();
+    fault_of(bytes)
 }

@@ -13,6 +13,3 @@ mod write;
 pub use archive::{Archive, FarRefusal, read_far, texts_stand_or_have_a_fault};
 pub use fault::{FarFault, WriteFault};
 pub use write::{FarEntry, write_far};
-
-#[cfg(test)]
-mod tests;

@@ -111,7 +111,12 @@ fn put_item(
     name_at: u32,
     data_at: u64,
 ) -> Result<(), AllocError>
-    ensures { OnOk result (out.new.items ≡ out.old.items ++ item_bytes (record { name_at = name_at; name = entry.now.name; data_at = data_at; bytes = entry.now.bytes })) }
+    ensures { OnOk result (out.new.items ≡ out.old.items ++ item_bytes (record {
+      name_at = name_at;
+      name = entry.now.name;
+      data_at = data_at;
+      bytes = entry.now.bytes;
+    })) }
 {
     let name_len = entry.name.as_slice().len() as u16;
     let data_len = entry.bytes.as_slice().len() as u64;
@@ -126,7 +131,8 @@ fn put_item(
 
 // The directory: names from 0 on, and data from this place on.
 fn put_directory(out: &mut Vec<u8>, entries: &[FarEntry], data_start: u64) -> Result<(), AllocError>
-    ensures { OnOk result (out.new.items ≡ out.old.items ++ flat_map item_bytes (items_from (listed entries.now) 0 data_start)) }
+    ensures { OnOk result (out.new.items
+        ≡ out.old.items ++ flat_map item_bytes (items_from (listed entries.now) 0 data_start)) }
 {
     let mut name_at = 0u32;
     let mut data_at = data_start;
@@ -139,7 +145,8 @@ fn put_directory(out: &mut Vec<u8>, entries: &[FarEntry], data_start: u64) -> Re
 
 // Where the name and the data of the next entry begin, if that fits.
 fn after_item(entry: &FarEntry, name_at: u32, data_at: u64) -> Result<(u32, u64), AllocError>
-    ensures { IfOk result (λ next. (next.0 ≡ name_at + length entry.now.name) × (next.1 ≡ data_at + up_to 4096 (length entry.now.bytes))) }
+    ensures { IfOk result (λ next. (next.0 ≡ name_at + length entry.now.name)
+        × (next.1 ≡ data_at + up_to 4096 (length entry.now.bytes))) }
 {
     let name_len = entry.name.as_slice().len() as u32;
     let Some(pages) = up_to(PAGE, entry.bytes.as_slice().len() as u64) else {
@@ -163,7 +170,8 @@ fn put_names(out: &mut Vec<u8>, entries: &[FarEntry]) -> Result<(), AllocError>
 // The files, each with zeros up to a page.
 fn put_files(out: &mut Vec<u8>, entries: &[FarEntry]) -> Result<(), AllocError>
     requires { length out.old.items % 4096 ≡ 0 }
-    ensures { OnOk result (out.new.items ≡ out.old.items ++ flat_map (λ file. filled 4096 file.1) (listed entries.now)) }
+    ensures { OnOk result (out.new.items
+        ≡ out.old.items ++ flat_map (λ file. filled 4096 file.1) (listed entries.now)) }
 {
     for entry in entries {
         put(out, entry.bytes.as_slice())?;
@@ -180,7 +188,9 @@ fn put_front(
     data_start: u64,
 ) -> Result<(), AllocError>
     requires { out.old.items ≡ [] }
-    ensures { OnOk result (out.new.items ≡ filled 8 (index_bytes p.now ++ flat_map item_bytes (items_from (listed entries.now) 0 data_start) ++ joined_names (listed entries.now))) }
+    ensures { OnOk result (out.new.items ≡ filled 8 (index_bytes p.now
+        ++ flat_map item_bytes (items_from (listed entries.now) 0 data_start)
+        ++ joined_names (listed entries.now))) }
 {
     put_index(out, p)?;
     put_directory(out, entries, data_start)?;
