@@ -34,9 +34,6 @@ length-first_hashes level bytes (suc n) =
 pub block_count-one : (bytes : List ℕ) → length bytes ≤ 8192 → block_count bytes ≡ 1
 block_count-one bytes short = omega arith
 
-pub block_count-more : (bytes : List ℕ) → 8192 < length bytes → 1 < block_count bytes
-block_count-more bytes long = omega arith
-
 -- the hash of the one block is left
 pub root_above-one : (n level : ℕ) (bytes : List ℕ) → length bytes ≤ 8192 → root_above n level bytes ≡ hashes level bytes
 unfolding root_above
@@ -59,13 +56,6 @@ hashes-one level bytes short =
     let one = block_count-one bytes short in
     let all : take 8192 bytes ≡ bytes = take_all 8192 bytes short in
     ap (first_hashes level bytes) one ∙ first_hashes-suc level bytes 0 ∙ ap (λ contents. sha256 (block_input level 0 contents)) all
-
--- the root of a blob of one block is that block's hash
-pub merkle_root-one : (bytes : List ℕ) → length bytes ≤ 8192 → merkle_root bytes ≡ record { 0 = sha256 (block_input 0 0 bytes) }
-unfolding merkle_root
-merkle_root-one bytes short =
-    let make : List ℕ → Root = λ hash. record { 0 = hash } in
-    ap make (root_above-one (length bytes) 0 bytes short ∙ hashes-one 0 bytes short)
 
 -- the hash of a level of one block has 32 bytes
 length-hashes-one : (level : ℕ) (bytes : List ℕ) → length bytes ≤ 8192 → length (hashes level bytes) ≡ 32
