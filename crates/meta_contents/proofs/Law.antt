@@ -1,24 +1,28 @@
 -- What is read is what the text stands for.
 use Rattle.std.proofs.Common.{◌≡◌, ℕ, ◌+◌, ◌<◌, ◌≤◌, Bool, true, false, cond, ltb, eqb, List, [], ◌∷◌, ◌++◌, length, map, All, Option, Some, None, Result, Ok, Err, refl, sym, ap, subst, ◌∙◌, append_assoc, arith}
-use Rattle.std.specs.Prelude.{option_and_then, IsUtf8}
+use Rattle.std.specs.Prelude.{option_and_then, IsUtf8, ◌↔◌}
 use Rattle.std.specs.Option.{option_map}
-use Rattle.std.specs.List.{IsDistinct, AllByRecursion, slice_split, onto_first}
+use Rattle.std.specs.List.{IsDistinct, AllByRecursion, onto_first}
 use Rattle.std.specs.Str.{bytes_eq}
 use Rattle.std.proofs.lemmas.Str.{is_utf8-from_IsUtf8}
 use Rattle.std.proofs.lemmas.Bool.{ltb-false, le-ltb, lt-ltb, eqb-true}
 use Rattle.std.proofs.lemmas.List.{append-nil, map-append}
 use Rattle.std.proofs.lemmas.List.Elements.{All-nil, All-cons}
 use Rattle.pkg_names.specs.declared.root.Root.{Root}
-use Rattle.pkg_names.specs.Root.{IsRoot, root_in}
+use Rattle.pkg_names.specs.Root.{IsRoot, root_in, root_text}
 use Rattle.pkg_names.specs.FileText.{IsFile, is_file_text}
-use Rattle.pkg_names.proofs.FileTests.{is_file_text-Decides}
-use Rattle.pkg_names.proofs.RootTexts.{root_in_spells}
+use Rattle.pkg_names.specs.Text.{lines_of}
 use Rattle.meta_contents.specs.declared.fault.ContentsFault.{ContentsFault}
 use Rattle.meta_contents.specs.declared.fault.ContentsFault.TheVariants.{Utf8, InMeta, Repeat, TooMany}
-use Rattle.meta_contents.specs.Lines.{lines, longer, last_cut, parsed, said}
+use Rattle.meta_contents.specs.Lines.{longer, last_cut, pair_of, pair_in}
 use Rattle.meta_contents.specs.Contents.{Pair, paths, is_in_meta, is_among, IsContents, line_text, placed, ◌>>=◌, reading, contents_of}
+use Rattle.meta_contents.proofs.Cuts.{FilesAreTested}
 use Rattle.meta_contents.proofs.Texts.{is_no_text}
 use Rattle.meta_contents.proofs.Placing.{among_more}
+
+-- a text has a root where it is that root's text
+abbrev pub RootsHaveTexts : Type 0
+RootsHaveTexts = (text : List ℕ) (root : Root) → (root_in text ≡ Some root) ↔ ((text ≡ root_text root) × IsRoot root)
 
 -- ---- a line
 
@@ -51,23 +55,23 @@ mapped : (path : List ℕ) (found : Option Root) (pair : Pair) → option_map (�
 mapped path (Some root) pair e = (root, refl, cc)
 mapped path None pair e = absurd cc
 
-tested : (b : Bool) (found : Option Pair) (pair : Pair) → cond b found None ≡ Some pair → (b ≡ true) × (found ≡ Some pair)
-tested true found pair e = (refl, e)
-tested false found pair e = absurd cc
+passes : (b : Bool) (found : Option Pair) (pair : Pair) → cond b found None ≡ Some pair → (b ≡ true) × (found ≡ Some pair)
+passes true found pair e = (refl, e)
+passes false found pair e = absurd cc
 
-cut_says : (line : List ℕ) (cut : List ℕ × List ℕ) (pair : Pair) → line ≡ cut.0 ++ 61 ∷ cut.1 → parsed cut ≡ Some pair → Says line pair
-cut_says line cut pair spells e =
-    let t = tested (is_file_text cut.0) (option_map (λ root. (cut.0, root)) (root_in cut.1)) pair e in
+cut_says : FilesAreTested → RootsHaveTexts → (line : List ℕ) (cut : List ℕ × List ℕ) (pair : Pair) → line ≡ cut.0 ++ 61 ∷ cut.1 → pair_of cut ≡ Some pair → Says line pair
+cut_says tested texts line cut pair spells e =
+    let t = passes (is_file_text cut.0) (option_map (λ root. (cut.0, root)) (root_in cut.1)) pair e in
     let m = mapped cut.0 (root_in cut.1) pair t.1 in
-    let r = root_in_spells cut.1 m.0 m.1 in
+    let r = (texts cut.1 m.0).0 m.1 in
     let here : Pair = (cut.0, m.0) in
-    subst (Says line) m.2 (record { text = spells ∙ ap (λ (l : List ℕ). cut.0 ++ 61 ∷ l) r.0; file = (is_file_text-Decides cut.0).0 t.0; root = r.1 })
+    subst (Says line) m.2 (record { text = spells ∙ ap (λ (l : List ℕ). cut.0 ++ 61 ∷ l) r.0; file = (tested cut.0).0 t.0; root = r.1 })
 
-said_is : (line : List ℕ) (pair : Pair) → said line ≡ Some pair → Says line pair
-said_is line pair e = go (last_cut line) refl e
+line_says : FilesAreTested → RootsHaveTexts → (line : List ℕ) (pair : Pair) → pair_in line ≡ Some pair → Says line pair
+line_says tested texts line pair e = go (last_cut line) refl e
   where
-    go : (found : Option (List ℕ × List ℕ)) → last_cut line ≡ found → option_and_then parsed found ≡ Some pair → Says line pair
-    go (Some cut) is h = cut_says line cut pair (cut_spells line cut is) h
+    go : (found : Option (List ℕ × List ℕ)) → last_cut line ≡ found → option_and_then pair_of found ≡ Some pair → Says line pair
+    go (Some cut) is h = cut_says tested texts line cut pair (cut_spells line cut is) h
     go None is h = absurd cc
 
 -- ---- lines
@@ -118,9 +122,9 @@ not_many : (b : Bool) (read : Result (List Pair) ContentsFault) (list : List Pai
 not_many true read list e = absurd cc
 not_many false read list e = (refl, e)
 
-pub are_read : (lines : List (List ℕ)) (seen : List (List ℕ)) (n : ℕ) (list : List Pair) → n ≤ 4097 → reading seen n lines ≡ Ok list → AreRead seen n lines list
+pub are_read : FilesAreTested → RootsHaveTexts → (lines : List (List ℕ)) (seen : List (List ℕ)) (n : ℕ) (list : List Pair) → n ≤ 4097 → reading seen n lines ≡ Ok list → AreRead seen n lines list
 unfolding reading IsDistinct
-are_read [] seen n list le e =
+are_read tested texts [] seen n list le e =
     let none : [] ≡ list = cc in
     subst (AreRead seen n []) none
     (record {
@@ -132,15 +136,15 @@ are_read [] seen n list le e =
       fresh = tt;
       distinct = tt;
     })
-are_read (line ∷ lines) seen n list le e =
+are_read tested texts (line ∷ lines) seen n list le e =
     let m = not_many (ltb 4096 n) _ list e in
     let below : n ≤ 4096 = ltb-false 4096 n m.0 in
-    let one = bind_ok (placed n seen (said line)) (λ pair. reading (seen ++ pair.0 ∷ []) (n + 1) lines >>= λ others. Ok (pair ∷ others)) list m.1 in
+    let one = bind_ok (placed n seen (pair_in line)) (λ pair. reading (seen ++ pair.0 ∷ []) (n + 1) lines >>= λ others. Ok (pair ∷ others)) list m.1 in
     let pair = one.0 in
-    let is = placed_is n seen (said line) pair one.1 in
-    let says = said_is line pair is.same in
+    let is = placed_is n seen (pair_in line) pair one.1 in
+    let says = line_says tested texts line pair is.same in
     let more = bind_ok (reading (seen ++ pair.0 ∷ []) (n + 1) lines) (λ others. Ok (pair ∷ others)) list one.2 in
-    let others = are_read lines (seen ++ pair.0 ∷ []) (n + 1) more.0 (omega arith) more.1 in
+    let others = are_read tested texts lines (seen ++ pair.0 ∷ []) (n + 1) more.0 (omega arith) more.1 in
     let whole : pair ∷ more.0 ≡ list = cc in
     let split = fresh_apart seen pair.0 (paths more.0) others.fresh in
     subst (AreRead seen n (line ∷ lines)) whole
@@ -154,9 +158,9 @@ are_read (line ∷ lines) seen n list le e =
       distinct = (split.1, others.distinct);
     })
 
-pub are_contents : (lines : List (List ℕ)) (list : List Pair) → reading [] 1 lines ≡ Ok list → IsContents list
-are_contents lines list e =
-    let is = are_read lines [] 1 list (omega arith) e in
+pub are_contents : FilesAreTested → RootsHaveTexts → (lines : List (List ℕ)) (list : List Pair) → reading [] 1 lines ≡ Ok list → IsContents list
+are_contents tested texts lines list e =
+    let is = are_read tested texts lines [] 1 list (omega arith) e in
     record { few = omega (arith, is.few); files = is.files; roots = is.roots; outer = is.outer; distinct = is.distinct }
 
 -- ---- reading one line after the other
@@ -164,11 +168,18 @@ are_contents lines list e =
 abbrev pub with_front : List Pair → Result (List Pair) ContentsFault → Result (List Pair) ContentsFault
 with_front front read = read >>= λ others. Ok (front ++ others)
 
+alone : (read : Result (List Pair) ContentsFault) → with_front [] read ≡ read
+alone (Ok x) = refl
+alone (Err f) = refl
+
+pub begins : (now : List Pair) (lines : List (List ℕ)) → now ≡ [] → with_front now (reading (paths now) 1 lines) ≡ reading [] 1 lines
+begins now lines none = ap (λ (l : List Pair). with_front l (reading (paths l) 1 lines)) none ∙ alone (reading [] 1 lines)
+
 regroup : (front : List Pair) (pair : Pair) (read : Result (List Pair) ContentsFault) → with_front front (read >>= λ others. Ok (pair ∷ others)) ≡ with_front (front ++ pair ∷ []) read
 regroup front pair (Ok x) = ap (λ (l : List Pair). Ok l) (simp append_assoc)
 regroup front pair (Err f) = refl
 
-pub goes_on : (front now : List Pair) (n : ℕ) (line : List ℕ) (rest : List (List ℕ)) (pair : Pair) (total : Result (List Pair) ContentsFault) → n ≤ 4096 → placed n (paths front) (said line) ≡ Ok pair
+pub goes_on : (front now : List Pair) (n : ℕ) (line : List ℕ) (rest : List (List ℕ)) (pair : Pair) (total : Result (List Pair) ContentsFault) → n ≤ 4096 → placed n (paths front) (pair_in line) ≡ Ok pair
     → now ≡ front ++ pair ∷ [] → with_front front (reading (paths front) n (line ∷ rest)) ≡ total → with_front now (reading (paths now) (n + 1) rest) ≡ total
 unfolding reading
 goes_on front now n line rest pair total le found grown so_far =
@@ -177,7 +188,7 @@ goes_on front now n line rest pair total le found grown so_far =
     let one : with_front front (reading (paths front) n (line ∷ rest)) ≡ with_front (front ++ pair ∷ []) (reading (paths front ++ pair.0 ∷ []) (n + 1) rest) = rw (below, found) (regroup front pair (reading (paths front ++ pair.0 ∷ []) (n + 1) rest)) in
     ap (λ (l : List Pair). with_front l (reading (paths l) (n + 1) rest)) grown ∙ ap (λ (ps : List (List ℕ)). with_front (front ++ pair ∷ []) (reading ps (n + 1) rest)) names ∙ sym one ∙ so_far
 
-pub ends : (front : List Pair) (n : ℕ) (line : List ℕ) (rest : List (List ℕ)) (fault : ContentsFault) (total : Result (List Pair) ContentsFault) → n ≤ 4096 → placed n (paths front) (said line) ≡ Err fault
+pub ends : (front : List Pair) (n : ℕ) (line : List ℕ) (rest : List (List ℕ)) (fault : ContentsFault) (total : Result (List Pair) ContentsFault) → n ≤ 4096 → placed n (paths front) (pair_in line) ≡ Err fault
     → with_front front (reading (paths front) n (line ∷ rest)) ≡ total → Err fault ≡ total
 unfolding reading
 ends front n line rest fault total le found so_far =
@@ -199,7 +210,7 @@ too_many front n line rest total lt so_far =
     sym one ∙ so_far
 
 -- a text that is UTF-8 or not
-pub in_text : (text : List ℕ) → IsUtf8 text → reading [] 1 (lines text) ≡ contents_of text
+pub in_text : (text : List ℕ) → IsUtf8 text → reading [] 1 (lines_of text) ≡ contents_of text
 unfolding contents_of
 in_text text utf8 = sym (rw (is_utf8-from_IsUtf8 text utf8) refl)
 
@@ -208,13 +219,11 @@ unfolding contents_of
 in_no_text text not_utf8 = sym (rw (is_no_text text not_utf8) refl)
 
 -- a text has a first line
-onto : (c : ℕ) (b : Bool) (parts : List (List ℕ)) (first : List ℕ) (others : List (List ℕ)) → parts ≡ first ∷ others → (line : List ℕ) × (rest : List (List ℕ)) × (cond b ([] ∷ parts) (onto_first c parts) ≡ line ∷ rest)
-onto c true parts first others is = ([], parts, refl)
-onto c false [] first others is = absurd cc
-onto c false (part ∷ parts) first others is = (c ∷ part, parts, refl)
+onto : (c : ℕ) (b : Bool) (parts : List (List ℕ)) → (line : List ℕ) × (rest : List (List ℕ)) × (cond b ([] ∷ parts) (onto_first c parts) ≡ line ∷ rest)
+onto c true parts = ([], parts, refl)
+onto c false [] = (c ∷ [], [], refl)
+onto c false (part ∷ parts) = (c ∷ part, parts, refl)
 
-pub has_a_line : (text : List ℕ) → (line : List ℕ) × (rest : List (List ℕ)) × (slice_split (λ c. eqb c 10) text ≡ line ∷ rest)
-has_a_line [] = ([], [], refl)
-has_a_line (c ∷ text) =
-    let below = has_a_line text in
-    onto c (eqb c 10) (slice_split (λ x. eqb x 10) text) below.0 below.1 below.2
+pub has_a_line : (text : List ℕ) → 0 < length text → (line : List ℕ) × (rest : List (List ℕ)) × (lines_of text ≡ line ∷ rest)
+has_a_line [] some = absurd (omega arith)
+has_a_line (c ∷ text) some = onto c (eqb c 10) (lines_of text)

@@ -1,16 +1,14 @@
 -- Contents that grow.
-use Rattle.std.proofs.Common.{◌≡◌, ℕ, ◌<◌, true, false, List, [], ◌∷◌, ◌++◌, length, get_or, refl, sym, ap, subst, ◌∙◌, arith}
+use Rattle.std.proofs.Common.{◌≡◌, ℕ, ◌<◌, false, List, [], ◌∷◌, ◌++◌, length, refl, sym, subst, ◌∙◌, arith}
 use Rattle.std.specs.List.{IsDistinct, list_any}
 use Rattle.std.specs.Str.{bytes_eq}
-use Rattle.std.proofs.lemmas.List.{length-append, get_or-map, length-map, map-append}
-use Rattle.std.proofs.lemmas.List.Folds.{list_any_at}
+use Rattle.std.proofs.lemmas.List.{length-append, map-append}
 use Rattle.std.proofs.lemmas.Cmp.{nat_list_eq_equiv}
 use Rattle.std.proofs.lemmas.Map.Keys.{IsDistinct-push}
-use Rattle.meta_contents.specs.declared.contents.ContentsLine.{ContentsLine}
 use Rattle.std.proofs.lemmas.List.Elements.{All-nil, All-push}
 use Rattle.pkg_names.specs.Root.{IsRoot}
 use Rattle.pkg_names.specs.FileText.{IsFile}
-use Rattle.meta_contents.specs.Contents.{Pair, pairs, paths, is_in_meta, is_among, IsContents}
+use Rattle.meta_contents.specs.Contents.{Pair, paths, is_in_meta, is_among, IsContents}
 
 pub none_are : IsContents []
 unfolding IsDistinct
@@ -21,15 +19,6 @@ none_are = record {
   outer = All-nil (λ pair. is_in_meta pair.0 ≡ false);
   distinct = tt;
 }
-
-pub among_at : (lines : List ContentsLine) (k : ℕ) (line : ContentsLine) (path : List ℕ) → k < length lines → line ≡ get_or lines k line → bytes_eq line.file path ≡ true → is_among path (paths (pairs lines)) ≡ true
-among_at lines k line path lt is same =
-    let pair : ContentsLine → Pair = λ l. (l.file, l.root) in
-    let size : length (pairs lines) ≡ length lines = length-map lines pair in
-    let size' : length (paths (pairs lines)) ≡ length (pairs lines) = length-map (pairs lines) (λ (p : Pair). p.0) in
-    let at : get_or (paths (pairs lines)) k [] ≡ line.file =
-    get_or-map (λ (p : Pair). p.0) (pairs lines) k (pair line) [] (omega (arith, size)) ∙ ap (λ (p : Pair). p.0) (get_or-map pair lines k line (pair line) lt) ∙ ap (λ (l : ContentsLine). l.file) (sym is) in
-    list_any_at (λ other. bytes_eq other path) (paths (pairs lines)) k [] (omega (arith, size, size')) (ap (λ (l : List ℕ). bytes_eq l path) at ∙ same)
 
 symmetric : (a b : List ℕ) → bytes_eq a b ≡ bytes_eq b a
 symmetric a b = nat_list_eq_equiv.symm a b

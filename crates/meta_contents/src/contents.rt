@@ -1,9 +1,11 @@
 //! Contents: the files of a package outside its archive, each with its root.
 
 ghost use Rattle.std.specs.Prelude.{◌≡◌, ◌↔◌, ◌++◌, ◌∷◌, [], List, length, true, false, Err, OnOk, OnErr, IfOk, IsErrOf};
-ghost use Rattle.meta_contents.specs.Contents.{Pair, pairs, paths, is_in_meta, is_among, IsContents, StandsFor, line_text, text_of};
+ghost use Rattle.pkg_names.specs.Text.{line_feed};
+ghost use Rattle.meta_contents.specs.Contents.{Pair, pairs, paths, most_lines, is_in_meta, is_among, IsContents, StandsFor, line_text, text_of};
 
 use crate::fault::AddFault;
+use crate::indexed::IndexedLines;
 use pkg_names::{Bytes, FilePath, Root, write_root};
 use std::alloc::{AllocError, Global};
 use std::marker::Model;
@@ -18,7 +20,7 @@ pub struct ContentsLine {
 /// The files of a package outside its archive. Contracts see the list of pairs, a file and its root.
 #[derive(Debug, Drop)]
 pub struct Contents {
-    lines: Vec<ContentsLine>,
+    lines: IndexedLines,
 }
 
 impl Model for Contents {
@@ -27,9 +29,9 @@ impl Model for Contents {
 
     ghost Value = { List Pair };
 
-    ghost view = { λ c. pairs c.lines.items };
+    ghost view = { λ c. pairs c.lines };
 
-    ghost invariant = { λ c. IsContents (pairs c.lines.items) };
+    ghost invariant = { λ c. IsContents (pairs c.lines) };
 }
 
 /// The most files that contents have.
@@ -41,16 +43,8 @@ impl Contents {
         ensures { result ≡ [] }
     {
         Contents {
-            lines: Vec::new(alloc),
+            lines: IndexedLines::new(alloc),
         }
-    }
-
-    // The contents of these lines.
-    pub(crate) fn of_lines(lines: Vec<ContentsLine>) -> Contents
-        requires { IsContents (pairs lines.items) }
-        ensures { result ≡ pairs lines.items }
-    {
-        Contents { lines }
     }
 
     pub fn lines(&self) -> &[ContentsLine]
@@ -66,17 +60,19 @@ impl Contents {
         ensures err { OnErr result (self.new ≡ self.old) }
         ensures in_meta { (result ≡ Err AddFault.InMeta) ↔ (is_in_meta file ≡ true) }
         ensures repeat { IsErrOf result AddFault.Repeat → is_among file (paths self.old) ≡ true }
-        ensures repeated { is_in_meta file ≡ false → is_among file (paths self.old) ≡ true → result ≡ Err AddFault.Repeat }
-        ensures too_many { IsErrOf result AddFault.TooMany → length self.old ≡ 4096 }
-        ensures full { is_in_meta file ≡ false → is_among file (paths self.old) ≡ false → length self.old ≡ 4096 → result ≡ Err AddFault.TooMany }
+        ensures repeated { is_in_meta file ≡ false → is_among file (paths self.old) ≡ true
+            → result ≡ Err AddFault.Repeat }
+        ensures too_many { IsErrOf result AddFault.TooMany → length self.old ≡ most_lines }
+        ensures full { is_in_meta file ≡ false → is_among file (paths self.old) ≡ false
+            → length self.old ≡ most_lines → result ≡ Err AddFault.TooMany }
     {
         if is_in_meta(file.as_slice()) {
             return Err(AddFault::InMeta);
         }
-        if is_among(file.as_slice(), &self.lines) {
+        if self.lines.has(file.as_slice()) {
             return Err(AddFault::Repeat);
         }
-        if self.lines.len() >= LINE_LIMIT {
+        if self.lines.as_slice().len() >= LINE_LIMIT {
             return Err(AddFault::TooMany);
         }
         self.lines.push(ContentsLine { file, root })?;
@@ -89,18 +85,6 @@ pub fn is_in_meta(path: &[u8]) -> bool
     ensures { result ≡ is_in_meta path.now }
 {
     path.starts_with(b"meta/")
-}
-
-// Whether a line has this path.
-fn is_among(path: &[u8], lines: &[ContentsLine]) -> bool
-    ensures { result ≡ is_among path.now (paths (pairs lines.now)) }
-{
-    for line in lines {
-        if line.file.as_slice() == path {
-            return true;
-        }
-    }
-    false
 }
 
 /// Writes one line for each file, in order.
@@ -116,7 +100,8 @@ pub fn write_contents(alloc: Global, contents: &Contents) -> Result<Bytes, Alloc
 }
 
 fn put_line(out: &mut Vec<u8>, line: &ContentsLine) -> Result<(), AllocError>
-    ensures { OnOk result (out.new.items ≡ out.old.items ++ (line_text (line.now.file, line.now.root) ++ 10 ∷ [])) }
+    ensures { OnOk result (out.new.items
+        ≡ out.old.items ++ (line_text (line.now.file, line.now.root) ++ line_feed ∷ [])) }
 {
     let mut digits = [0u8; 64];
     write_root(&line.root, &mut digits);

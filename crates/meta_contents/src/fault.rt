@@ -1,11 +1,10 @@
 //! Why a text is no contents or names no package.
 
 ghost use Rattle.std.specs.Prelude.{◌≡◌};
-ghost use Rattle.meta_contents.specs.declared.fault.ContentsFault.TheVariants as contents;
 ghost use Rattle.meta_contents.specs.declared.fault.AddFault.TheVariants as add;
 ghost use Rattle.meta_contents.specs.declared.fault.PackageNameFault.TheVariants as naming;
 
-use std::alloc::{AllocError, AllocFailed};
+use std::alloc::AllocError;
 
 /// What is wrong with a contents text. Lines are counted from 1.
 #[derive(Clone, Copy, Debug, PartialEq, Eq)]
@@ -20,22 +19,6 @@ pub enum ContentsFault {
     /// There are more than 4096 lines.
     TooMany,
     NoMemory,
-}
-
-impl From<AllocError> for ContentsFault {
-    ghost from_gives = { λ _ e. e ≡ contents.NoMemory };
-
-    fn from(_e: AllocError) -> ContentsFault {
-        ContentsFault::NoMemory
-    }
-}
-
-impl<T: Drop> From<AllocFailed<T>> for ContentsFault {
-    ghost from_gives = { λ _ e. e ≡ contents.NoMemory };
-
-    fn from(_e: AllocFailed<T>) -> ContentsFault {
-        ContentsFault::NoMemory
-    }
 }
 
 /// Why a pair was not added.
@@ -54,14 +37,6 @@ impl From<AllocError> for AddFault {
     ghost from_gives = { λ _ e. e ≡ add.NoMemory };
 
     fn from(_e: AllocError) -> AddFault {
-        AddFault::NoMemory
-    }
-}
-
-impl<T: Drop> From<AllocFailed<T>> for AddFault {
-    ghost from_gives = { λ _ e. e ≡ add.NoMemory };
-
-    fn from(_e: AllocFailed<T>) -> AddFault {
         AddFault::NoMemory
     }
 }

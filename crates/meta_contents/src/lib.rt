@@ -5,6 +5,7 @@
 
 mod contents;
 mod fault;
+mod indexed;
 mod package;
 mod reading;
 
@@ -12,6 +13,3 @@ pub use contents::{Contents, ContentsLine, LINE_LIMIT, is_in_meta, write_content
 pub use fault::{AddFault, ContentsFault, PackageNameFault};
 pub use package::{PackageName, read_package};
 pub use reading::{read_contents, texts_stand_for_what_is_read};
-
-#[cfg(test)]
-mod tests;

@@ -27,7 +27,8 @@ pub fn read_package(alloc: Global, bytes: &[u8]) -> Result<PackageName, PackageN
 // The value in the text.
 fn value_in(alloc: Global, bytes: &[u8]) -> Result<Value, PackageNameFault>
     ensures found { IfOk result (λ value. object_in bytes.now ≡ Some (view value)) }
-    ensures none { IfErr result (λ fault. (fault ≡ PackageNameFault.NoMemory) ⊎ ((fault ≡ PackageNameFault.Json) × (object_in bytes.now ≡ None))) }
+    ensures none { IfErr result (λ fault. (fault ≡ PackageNameFault.NoMemory)
+        ⊎ ((fault ≡ PackageNameFault.Json) × (object_in bytes.now ≡ None))) }
 {
     let Ok(text) = str::from_utf8(bytes) else {
         return Err(PackageNameFault::Json);
@@ -45,7 +46,8 @@ fn value_in(alloc: Global, bytes: &[u8]) -> Result<Value, PackageNameFault>
 }
 
 fn named(alloc: Global, value: &Value) -> Result<PackageName, PackageNameFault>
-    ensures { (result ≡ named (view value.now) (as_object (view value.now))) ⊎ (result ≡ Err PackageNameFault.NoMemory) }
+    ensures { (result ≡ named (view value.now) (as_object (view value.now)))
+        ⊎ (result ≡ Err PackageNameFault.NoMemory) }
 {
     if value.as_object().is_none() {
         return Err(PackageNameFault::Json);

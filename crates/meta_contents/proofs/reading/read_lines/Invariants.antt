@@ -1,12 +1,11 @@
-use Rattle.std.proofs.Common.{◌≡◌, []}
-use Rattle.meta_contents.specs.Lines.{lines}
-use Rattle.meta_contents.specs.Contents.{reading, paths, pairs}
-use Rattle.meta_contents.specs.Seen.{HasPaths, lines_left}
+use Rattle.std.proofs.Common.{◌≡◌, ◌+◌, [], length}
+use Rattle.pkg_names.specs.Text.{lines_of}
+use Rattle.meta_contents.specs.Contents.{reading, paths}
 use Rattle.meta_contents.proofs.Law.{with_front}
 use Rattle.meta_contents.proofs.reading.read_lines.Given as goal
 
 abbrev pub invariant-loop-n : goal.invariant-loop-n
 invariant-loop-n l = record {
-  seen : HasPaths l.draft.seen l.draft.lines.items;
-  left : with_front (pairs l.draft.lines.items) (reading (paths (pairs l.draft.lines.items)) l.n (lines_left l.rest)) ≡ reading [] 1 (lines l.text);
+  count : length l.contents + 1 ≡ l.n;
+  left : with_front l.contents (reading (paths l.contents) l.n (lines_of l.rest)) ≡ reading [] 1 (lines_of l.text);
 }

@@ -10,9 +10,9 @@ pub invariant_of-self-2 : goal.invariant_of-self-2
 invariant_of-self-2 c =
     let root : IsRoot c.args.root = record { length = search rules; bytes = λ i. search rules } in
     let pair : ContentsLine → Pair = λ l. (l.file, l.root) in
-    let more : pairs c.push.new.self.items ≡ pairs c.self.inside.lines.items ++ (c.args.file, c.args.root) ∷ [] = ap pairs c.in_ok-push.ensures.items ∙ map-append pair c.self.inside.lines.items _ in
-    let few : length (pairs c.self.inside.lines.items) < 4096 = omega (arith, length-map {B = Pair} c.self.inside.lines.items pair, c.len.ensures) in
+    let before = c.self.inside.lines in
+    let more : pairs c.push.new.self ≡ pairs before ++ (c.args.file, c.args.root) ∷ [] = ap pairs c.in_ok-push.ensures.ok ∙ map-append pair before _ in
+    let few : length (pairs before) < 4096 = omega (arith, length-map {B = Pair} before pair, ap (λ (l : List ContentsLine). length l) c.as_slice-3.ensures) in
     let outer = ap is_in_meta (sym c.as_slice.ensures.text) ∙ sym c.is_in_meta.ensures ∙ c.if-is_in_meta.false in
-    let fresh = ap (λ (l : List ℕ). is_among l (paths (pairs c.self.inside.lines.items))) (sym c.as_slice-2.ensures.text)
-    ∙ ap (λ (l : List ContentsLine). is_among c.as_slice-2.result.now (paths (pairs l))) (sym c.deref.ensures.value) ∙ sym c.is_among.ensures ∙ c.if-is_among.false in
-    subst IsContents (sym more) (one_more (pairs c.self.inside.lines.items) (c.args.file, c.args.root) c.self.invariant few c.as_slice.ensures.valid root outer fresh)
+    let fresh = ap (λ (l : List ℕ). is_among l (paths (pairs before))) (sym c.as_slice-2.ensures.text) ∙ sym c.has.ensures ∙ c.if-has.false in
+    subst IsContents (sym more) (one_more (pairs before) (c.args.file, c.args.root) c.self.invariant few c.as_slice.ensures.valid root outer fresh)
