@@ -163,7 +163,15 @@ fn write(alloc: Global, files: &[(&[u8], &[u8])]) -> Result<Result<Vec<u8>, Writ
 }
 
 // Whether these bytes begin so, have this length, and read back with these files.
-fn reads_back(bytes: Vec<u8>, front: &[u8], len: usize, files: &[(&[u8], &[u8])]) -> bool {
+fn reads_back(
+    written: Result<Vec<u8>, WriteFault>,
+    front: &[u8],
+    len: usize,
+    files: &[(&[u8], &[u8])],
+) -> bool {
+    let Ok(bytes) = written else {
+        return false;
+    };
     if bytes.len() != len || len >= 100_000 || !bytes.as_slice().starts_with(front) {
         return false;
     }
@@ -205,17 +213,10 @@ fn writes(rt: HostRuntime) -> Result<(), Fail> {
             12288,
         ),
         (&[], &ONE[..32], 4096),
-        (
-            &[(b"a", b""), (b"b", b"xy"), (b"c", b"")],
-            &ONE[..24],
-            8192,
-        ),
+        (&[(b"a", b""), (b"b", b"xy"), (b"c", b"")], &ONE[..24], 8192),
     ] {
         let written = write(alloc, files)?;
-        let Ok(bytes) = written else {
-            return Err(Fail);
-        };
-        assert!(rt; reads_back(bytes, front, len, files), "{len} bytes");
+        assert!(rt; reads_back(written, front, len, files), "{len} bytes");
     }
     Ok(())
 }
@@ -224,7 +225,11 @@ fn writes(rt: HostRuntime) -> Result<(), Fail> {
 fn orders(rt: HostRuntime) -> Result<(), Fail> {
     for (names, entry) in [([b"a", b"c", b"b"], 2), ([b"a", b"a", b"b"], 1)] {
         let [first, second, third] = names;
-        let files = [(first.as_slice(), b"".as_slice()), (second, b""), (third, b"")];
+        let files = [
+            (first.as_slice(), b"".as_slice()),
+            (second, b""),
+            (third, b""),
+        ];
         let written = write(rt.alloc(), &files)?;
         assert_eq!(rt; written.err(), Some(WriteFault::Order { entry }));
     }

@@ -2,7 +2,8 @@
 
 use crate::common::{ONES, TWOS, joined};
 use meta_contents::{
-    AddFault, Contents, ContentsFault, PackageNameFault, read_contents, read_package, write_contents,
+    AddFault, Contents, ContentsFault, PackageNameFault, read_contents, read_package,
+    write_contents,
 };
 use pkg_names::{Root, read_file};
 use std::alloc::{AllocError, Global};

@@ -2,7 +2,7 @@
 
 ghost use Rattle.std.specs.Prelude.{◌≡◌, ◌<◌, IfOk, vec_len};
 
-use pkg_merkle::{Hasher, TooLong, root_of};
+use pkg_merkle::{BYTES_LIMIT, Hasher, TooLong, root_of};
 use pkg_names::{Root, read_root};
 use std::alloc::{AllocError, Global};
 use std::process::Abort;
@@ -38,14 +38,30 @@ fn at_once(rt: HostRuntime) -> Result<(), Fail> {
     let hi = b"df6d2bb7dac8a27c99a0ac498fabc106e94eab93dc88d40b2e313aeae33cb5a6";
     assert_eq!(rt; root_of(b"hi"), read_root(hi)?);
     for (count, root) in [
-        (0, b"15ec7bf0b50732b49f8228e07d24365338f9e3ab994b00af08e5a3bffe55fd8b"),
-        (8191, b"6d33573af0b3a6644fb24d575825851fad416c6bb4c57ffc36a5cce7ca7c3a49"),
-        (8192, b"b7c69c4a973fd0359ffcaba1d5ef55ee5151dd48d0afb040c81ec55ca0108e16"),
-        (8193, b"e44008277f50f626211066aebf4415a2f225502157e6c4de4b82436d592ad291"),
-        (2_097_152, b"970ab98f941e7dc764be91d515d8e3a8714efb1e969ca4d76e13780f2247f2e7"),
+        (
+            0,
+            b"15ec7bf0b50732b49f8228e07d24365338f9e3ab994b00af08e5a3bffe55fd8b",
+        ),
+        (
+            8191,
+            b"6d33573af0b3a6644fb24d575825851fad416c6bb4c57ffc36a5cce7ca7c3a49",
+        ),
+        (
+            8192,
+            b"b7c69c4a973fd0359ffcaba1d5ef55ee5151dd48d0afb040c81ec55ca0108e16",
+        ),
+        (
+            8193,
+            b"e44008277f50f626211066aebf4415a2f225502157e6c4de4b82436d592ad291",
+        ),
+        (
+            2_097_152,
+            b"970ab98f941e7dc764be91d515d8e3a8714efb1e969ca4d76e13780f2247f2e7",
+        ),
         (2_097_153, TWO_LEVELS),
     ] {
         let bytes = sample(rt.alloc(), count)?;
+        assert!(rt; bytes.len() <= BYTES_LIMIT);
         assert_eq!(rt; root_of(&bytes), read_root(root)?, "{count} bytes");
     }
     Ok(())
