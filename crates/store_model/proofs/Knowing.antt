@@ -2,14 +2,16 @@
 use Rattle.std.proofs.Common.{◌≡◌, ℕ, Bool, true, false, cond, ◌&&◌, List, [], ◌∷◌, ◌++◌, Option, Some, is_some, refl, ap, subst, ◌∙◌}
 use Rattle.std.specs.Prelude.{nat_lt, not}
 use Rattle.pkg_names.specs.declared.root.Root.{Root}
-use Rattle.package_book.specs.Books.{Meta, Books, book_at, root_eq}
+use Rattle.pkg_names.specs.Root.{root_eq}
+use Rattle.package_book.specs.Books.{Meta, Books, book_at}
 use Rattle.package_book.specs.Books.Meta.{Read, Long}
 use Rattle.store_model.specs.declared.events.LookedAt.{LookedAt}
 use Rattle.store_model.specs.declared.events.Event.{Event}
 use Rattle.store_model.specs.State.{State, Stored, stored_len, is_stored, has_root, protected_in}
-use Rattle.store_model.specs.Settling.{meta_limit, with_looked, with_long, looked_books, kept_books, settle, KnowsAll, HasLooked}
+use Rattle.store_model.specs.declared.events.TheConstants.{META_LIMIT}
+use Rattle.store_model.specs.Settling.{with_looked, with_long, looked_books, kept_books, settle, KnowsAll, HasLooked}
 use Rattle.store_model.specs.Step.{IsDue, next, seen_by, step}
-use Rattle.store_model.proofs.Roots.{root_eq-true, root_eq-refl}
+use Rattle.pkg_names.proofs.Roots.{root_eq-true, root_eq-refl}
 
 -- what holds of both choices holds of the choice
 pub cond_both : {A : Type 0} (P : A → Type 0) (test : Bool) (x y : A) → P x → P y → P (cond test x y)
@@ -45,7 +47,7 @@ knows_looked books (pair ∷ seen) root h =
 pub knows_long : (books : Books) (stock : List Stored) (root : Root) → Knows root books → Knows root (with_long books stock)
 knows_long books [] root h = h
 knows_long books (blob ∷ stock) root h =
-    cond_both (Knows root) (nat_lt meta_limit blob.len && not (is_some (book_at books blob.root))) (with_long (books ++ record { root = blob.root; meta = Long blob.len } ∷ []) stock) (with_long books stock)
+    cond_both (Knows root) (nat_lt META_LIMIT blob.len && not (is_some (book_at books blob.root))) (with_long (books ++ record { root = blob.root; meta = Long blob.len } ∷ []) stock) (with_long books stock)
     (knows_long (books ++ record { root = blob.root; meta = Long blob.len } ∷ []) stock root (knows_more books (record { root = blob.root; meta = Long blob.len } ∷ []) root h))
     (knows_long books stock root h)
 
@@ -57,10 +59,10 @@ knows_pair books pair = first (is_some (book_at books pair.root)) refl where
   first false e = knows_last books pair.root (Read pair.bytes)
 
 -- so is a stored blob that is too long to be read
-pub knows_stored_long : (books : Books) (stock : List Stored) (root : Root) (len : ℕ) → stored_len stock root ≡ Some len → nat_lt meta_limit len ≡ true → Knows root (with_long books stock)
+pub knows_stored_long : (books : Books) (stock : List Stored) (root : Root) (len : ℕ) → stored_len stock root ≡ Some len → nat_lt META_LIMIT len ≡ true → Knows root (with_long books stock)
 knows_stored_long books [] root len at long = absurd cc
 knows_stored_long books (blob ∷ stock) root len at long = first (root_eq blob.root root) refl (λ bs h. knows_stored_long bs stock root len h long) at where
-  second : (test : Bool) → is_some (book_at books blob.root) ≡ test → nat_lt meta_limit blob.len ≡ true → Knows blob.root (cond (nat_lt meta_limit blob.len && not test) (with_long (books ++ record { root = blob.root; meta = Long blob.len } ∷ []) stock) (with_long books stock))
+  second : (test : Bool) → is_some (book_at books blob.root) ≡ test → nat_lt META_LIMIT blob.len ≡ true → Knows blob.root (cond (nat_lt META_LIMIT blob.len && not test) (with_long (books ++ record { root = blob.root; meta = Long blob.len } ∷ []) stock) (with_long books stock))
   second true e l = rw l (knows_long books stock blob.root e)
   second false e l = rw l (knows_long (books ++ record { root = blob.root; meta = Long blob.len } ∷ []) stock blob.root (knows_last books blob.root (Long blob.len)))
 
@@ -69,9 +71,9 @@ knows_stored_long books (blob ∷ stock) root len at long = first (root_eq blob.
   first true e rest h =
       let is_root : blob.root ≡ root = root_eq-true blob.root root e in
       let is_len : blob.len ≡ len = cc in
-      subst (λ (r : Root). Knows r (with_long books (blob ∷ stock))) is_root (second (is_some (book_at books blob.root)) refl (ap (nat_lt meta_limit) is_len ∙ long))
+      subst (λ (r : Root). Knows r (with_long books (blob ∷ stock))) is_root (second (is_some (book_at books blob.root)) refl (ap (nat_lt META_LIMIT) is_len ∙ long))
   first false e rest h =
-      cond_both (Knows root) (nat_lt meta_limit blob.len && not (is_some (book_at books blob.root))) (with_long (books ++ record { root = blob.root; meta = Long blob.len } ∷ []) stock) (with_long books stock)
+      cond_both (Knows root) (nat_lt META_LIMIT blob.len && not (is_some (book_at books blob.root))) (with_long (books ++ record { root = blob.root; meta = Long blob.len } ∷ []) stock) (with_long books stock)
       (rest (books ++ record { root = blob.root; meta = Long blob.len } ∷ []) h) (rest books h)
 
 -- the books of packages that are kept

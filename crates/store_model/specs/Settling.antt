@@ -1,16 +1,13 @@
 -- What an event that looked at blobs leaves in the books. The books know each protected package that
 -- is stored, and no other.
-use Rattle.std.specs.Prelude.{◌≡◌, ◌≤◌, ℕ, ◌&&◌, not, nat_lt, true, List, [], ◌∷◌, ◌++◌, length, Some, is_some, if◌then◌else◌}
+use Rattle.std.specs.Prelude.{◌≡◌, ◌≤◌, ◌&&◌, not, nat_lt, true, List, [], ◌∷◌, ◌++◌, length, Some, is_some, if◌then◌else◌}
 use Rattle.pkg_names.specs.declared.root.Root.{Root}
 use Rattle.pkg_merkle.specs.Merkle.{merkle_root}
 use Rattle.package_book.specs.Books.{Books, book_at}
 use Rattle.package_book.specs.Books.Meta.{Read, Long}
+use Rattle.store_model.specs.declared.events.TheConstants.{META_LIMIT}
 use Rattle.store_model.specs.declared.events.LookedAt.{LookedAt}
 use Rattle.store_model.specs.State.{Stored, State, stored_len, is_stored, has_root, protected_in}
-
--- the longest meta blob that is read
-abbrev pub meta_limit : ℕ
-meta_limit = 1048576
 
 -- the books, with the blobs that were looked at and aren't known
 abbrev pub with_looked : Books → List LookedAt → Books
@@ -22,7 +19,7 @@ with_looked books (pair ∷ pairs) =
 abbrev pub with_long : Books → List Stored → Books
 with_long books [] = books
 with_long books (blob ∷ blobs) =
-    if nat_lt meta_limit blob.len && not (is_some (book_at books blob.root)) then with_long (books ++ record { root = blob.root; meta = Long blob.len } ∷ []) blobs
+    if nat_lt META_LIMIT blob.len && not (is_some (book_at books blob.root)) then with_long (books ++ record { root = blob.root; meta = Long blob.len } ∷ []) blobs
     else with_long books blobs
 
 -- the books of the protected packages that are stored
@@ -50,4 +47,4 @@ HasLooked seen s = KnowsAll (looked_books seen s) (protected_in s) s.stock
 -- Each blob that was looked at has its root, is stored with its length after the event, and is short enough to be kept.
 abbrev pub IsSeen : List LookedAt → List Stored → Type 0
 IsSeen [] stock = Unit {0}
-IsSeen (pair ∷ pairs) stock = (merkle_root pair.bytes ≡ pair.root) × (stored_len stock pair.root ≡ Some (length pair.bytes)) × (length pair.bytes ≤ meta_limit) × IsSeen pairs stock
+IsSeen (pair ∷ pairs) stock = (merkle_root pair.bytes ≡ pair.root) × (stored_len stock pair.root ≡ Some (length pair.bytes)) × (length pair.bytes ≤ META_LIMIT) × IsSeen pairs stock

@@ -10,7 +10,8 @@ use Rattle.fetch_queue.specs.declared.FetchEnd.{FetchEnd}
 use Rattle.pkg_names.specs.NameAndVariant.{NameAndVariant}
 use Rattle.pkg_names.specs.declared.root.Root.{Root}
 use Rattle.pkg_names.specs.declared.pinned.Pinned.{Pinned}
-use Rattle.package_book.specs.Books.{Books, root_eq}
+use Rattle.pkg_names.specs.Root.{root_eq}
+use Rattle.package_book.specs.Books.{Books}
 use Rattle.package_book.specs.Names.{names}
 use Rattle.package_indexes.specs.Indexes.{protected}
 

@@ -1,12 +1,9 @@
 //! What happens to a store: one event a call, with all that the call answered.
 
-ghost use Rattle.std.specs.Prelude.{◌≡◌};
-
 use abr_record::Slot;
 use fetch_queue::FetchEnd;
 use package_indexes::Choice;
-use pkg_names::{Bytes, PackagePath, Root};
-use std::marker::Model;
+use pkg_names::{Bytes, Items, PackagePath, Root};
 
 /// One event. Its number is its place in the history, counted from 1.
 #[derive(Debug, Drop)]
@@ -99,6 +96,9 @@ pub enum Miss {
     Memory,
 }
 
+/// The longest meta blob that is read and carried, in bytes.
+pub const META_LIMIT: usize = 1_048_576;
+
 /// A blob that a call first looked at.
 #[derive(Debug, Drop)]
 pub struct LookedAt {
@@ -107,30 +107,4 @@ pub struct LookedAt {
 }
 
 /// The blobs that a call first looked at.
-#[derive(Debug, Drop)]
-pub struct Looked {
-    items: Vec<LookedAt>,
-}
-
-impl Model for Looked {
-    ghost use Rattle.std.specs.Prelude.{List};
-    ghost use Rattle.store_model.specs.declared.events.LookedAt.{LookedAt};
-
-    ghost Value = { List LookedAt };
-
-    ghost view = { λ l. l.items.items };
-}
-
-impl Looked {
-    pub fn make(items: Vec<LookedAt>) -> Looked
-        ensures list { result ≡ items.items }
-    {
-        Looked { items }
-    }
-
-    pub fn as_slice(&self) -> &[LookedAt]
-        ensures list { result.now ≡ self.now }
-    {
-        &self.items
-    }
-}
+pub type Looked = Items<LookedAt>;

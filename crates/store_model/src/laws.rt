@@ -7,6 +7,13 @@ ghost use Rattle.store_model.specs.Step.{IsDue, step};
 ghost use Rattle.store_model.specs.History.{IsLegal, after, GoesOn};
 ghost use Rattle.store_model.specs.Footprints.{footprint, KeepsRest};
 
+use crate::events::META_LIMIT;
+
+/// The number that definitions cite by name.
+pub fn limits()
+    ensures meta { META_LIMIT ≡ 1_048_576 }
+{}
+
 /// An act changes the parts of its footprint and no others, but for the books.
 pub fn each_act_keeps_the_rest()
     ensures { (s : State) (number : ℕ) (e : EventOf) → KeepsRest (footprint e.act) s (step s number e) }

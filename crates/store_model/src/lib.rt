@@ -5,5 +5,5 @@
 mod events;
 mod laws;
 
-pub use events::{Act, BeginEnd, Cause, Event, Looked, LookedAt, Miss, WantEnd};
-pub use laws::{each_act_keeps_the_rest, histories_go_on};
+pub use events::{Act, BeginEnd, Cause, Event, Looked, LookedAt, META_LIMIT, Miss, WantEnd};
+pub use laws::{each_act_keeps_the_rest, histories_go_on, limits};

@@ -7,11 +7,12 @@ use Rattle.pkg_names.specs.declared.root.Root.{Root}
 use Rattle.package_indexes.specs.declared.Choice.{Choice}
 use Rattle.package_indexes.specs.declared.Choice.TheVariants as choices
 use Rattle.package_indexes.specs.Indexes.{chosen}
-use Rattle.package_book.specs.Books.{book_at, root_eq}
+use Rattle.pkg_names.specs.Root.{root_eq}
+use Rattle.package_book.specs.Books.{book_at}
 use Rattle.store_model.specs.declared.events.BeginEnd.{BeginEnd}
 use Rattle.store_model.specs.declared.events.BeginEnd.TheVariants.{Ticket, InRecovery, NotFound, ListingFault, DiskRead, Rotten}
 use Rattle.store_model.specs.State.{State, Arrival, stored_len}
-use Rattle.store_model.specs.Settling.{meta_limit}
+use Rattle.store_model.specs.declared.events.TheConstants.{META_LIMIT}
 
 abbrev pub is_recovery : Slot → Bool
 is_recovery slots.A = false
@@ -29,7 +30,7 @@ abbrev pub begin_answer : State → NameAndVariant → Choice → BeginEnd
 begin_answer s path choice = if is_recovery s.running then InRecovery else ticket_for choice (chosen s.base s.cached path choice)
 
 abbrev pub is_short : Option ℕ → Bool
-is_short (Some len) = nat_le len meta_limit
+is_short (Some len) = nat_le len META_LIMIT
 is_short None = false
 
 -- the package's meta blob is stored, is short enough, and isn't known

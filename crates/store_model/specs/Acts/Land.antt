@@ -3,7 +3,7 @@ use Rattle.std.specs.Prelude.{◌≡◌, ℕ, false, Option, Some, None, IsSomeA
 use Rattle.pkg_names.specs.declared.root.Root.{Root}
 use Rattle.fetch_queue.specs.declared.FetchEnd.{FetchEnd}
 use Rattle.fetch_queue.specs.declared.FetchEnd.TheVariants.{Wrong}
-use Rattle.package_book.specs.Books.{root_eq}
+use Rattle.pkg_names.specs.Root.{root_eq}
 use Rattle.store_model.specs.State.{State, Stored, Claim, Arrival, claim_of, without_claim, marked}
 
 -- it lands, or the bytes have another root
