@@ -1,13 +1,14 @@
 -- The machine that serves keeps its counts.
-use Rattle.std.proofs.Common.{◌≡◌, ℕ, ◌+◌, Bool, true, false, ◌&&◌, List, [], ◌∷◌, length, Option, Some, None, refl, sym, ap, subst, ◌∙◌, arith}
+use Rattle.std.proofs.Common.{◌≡◌, ℕ, ◌+◌, Bool, true, false, ◌&&◌, List, [], ◌∷◌, ◌++◌, length, map, take, drop, Option, Some, None, refl, sym, ap, subst, ◌∙◌, arith}
 use Rattle.std.specs.Prelude.{◌==◌, if◌then◌else◌}
 use Rattle.std.specs.Option.{option_map}
+use Rattle.std.proofs.lemmas.List.{length-append}
 use Rattle.pkg_names.specs.declared.root.Root.{Root}
-use Rattle.pkg_names.specs.NameAndVariant.{NameAndVariant}
+use Rattle.pkg_names.specs.NameAndVariant.{NameAndVariant, path_eq}
 use Rattle.fetch_queue.specs.declared.FetchEnd.{FetchEnd}
-use Rattle.package_book.specs.Books.{root_eq}
+use Rattle.pkg_names.specs.Root.{root_eq}
 use Rattle.package_indexes.specs.declared.Choice.{Choice}
-use Rattle.package_indexes.specs.Indexes.{path_eq}
+use Rattle.package_indexes.specs.declared.Choice.TheVariants as choices
 use Rattle.store_model.specs.declared.events.Event.{Event}
 use Rattle.store_model.specs.declared.events.Act.{Act}
 use Rattle.store_model.specs.declared.events.Act.TheVariants.{Boot, Begin, Want, Room, Land, Missed, GaveUp}
@@ -18,23 +19,23 @@ use Rattle.store_model.specs.declared.events.WantEnd.TheVariants.{Fetch, Opened,
 use Rattle.store_model.specs.declared.events.LookedAt.{LookedAt}
 use Rattle.store_model.specs.declared.events.Miss.{Miss}
 use Rattle.store_model.specs.declared.events.Miss.TheVariants as misses
-use Rattle.store_model.proofs.Roots.{root_eq-true}
+use Rattle.pkg_names.proofs.Roots.{root_eq-true, path_eq-true}
 use Rattle.pkg_tool.specs.declared.script.Request.{Request}
-use Rattle.pkg_tool.specs.Counting.{asks, answers, grants, ends, counted, asked_at, granted_at, Balances}
-use Rattle.pkg_tool.specs.Serving.{Place, Progress, is_pin, after_begin, after_want, after_room, after_miss, goes, served_to, goes_for, passes, leads_to, progress}
-use Rattle.pkg_tool.specs.Serving.Place.{Rest, Waiting, Granted, Roomy, Giving, Cut}
+use Rattle.pkg_tool.specs.Counting.{Asking, asking, askings, asking_of, answers, grants, grant_ends, counted, asked_at, granted_at, Balances}
+use Rattle.pkg_tool.specs.Serving.{Point, Progress, is_pin, after_begin, after_want, after_room, after_miss, goes, served_to, goes_for, passes, leads_to, progress}
+use Rattle.pkg_tool.specs.Serving.Point.{Rest, Waiting, Granted, Roomy, Giving, Cut}
 
 -- one where the lane rests
-abbrev rests : Place → ℕ
+abbrev rests : Point → ℕ
 rests Rest = 1
-rests place = 0
+rests point = 0
 
-record Stepped (from : Place) (act : Act) (to : Place) : Type 0 where
-  asked : asks act + asked_at from ≡ asked_at to + answers act
+record Stepped (from : Point) (act : Act) (to : Point) : Type 0 where
+  asked : length (asking act) + asked_at from ≡ asked_at to + answers act
   answered : answers act ≡ rests to
-  fetched : (root : Root) → grants root act + granted_at root from ≡ ends root act + granted_at root to
+  fetched : (root : Root) → grants root act + granted_at root from ≡ grant_ends root act + granted_at root to
 
-picked : (t : Bool) (to found : Place) → ◌≡◌ {A = Option Place} (if t then Some to else None) (Some found) → (t ≡ true) × (to ≡ found)
+pub picked : (t : Bool) (to found : Point) → ◌≡◌ {A = Option Point} (if t then Some to else None) (Some found) → (t ≡ true) × (to ≡ found)
 picked true to found h = (refl, cc)
 picked false to found h = absurd cc
 
@@ -74,7 +75,7 @@ gave_up ticket given = record { asked = refl; answered = refl; fetched = λ r. r
 gave_in : (ticket given : ℕ) → Stepped (Giving ticket) (GaveUp given) Cut
 gave_in ticket given = record { asked = refl; answered = refl; fetched = λ r. refl }
 
-stepped : (request : Request) (from : Place) (number : ℕ) (act : Act) (to : Place) → goes request from number act ≡ Some to → Stepped from act to
+stepped : (request : Request) (from : Point) (number : ℕ) (act : Act) (to : Point) → goes request from number act ≡ Some to → Stepped from act to
 stepped request Rest number (Boot slot seen) to h = absurd cc
 stepped request Rest number (Begin path choice reply seen) to h =
     let is = picked (path_eq request.path path && is_pin request.root choice) (after_begin number reply) to h in
@@ -138,13 +139,106 @@ stepped request Cut number (Land landed len reply seen) to h = absurd cc
 stepped request Cut number (Missed missed why) to h = absurd cc
 stepped request Cut number (GaveUp given) to h = absurd cc
 
+-- what an act asks for, of the requests that are left
+record AsksFirst (left rest : List Request) (point : Point) (act : Act) : Type 0 where
+  first : List Request
+  is : asking act ≡ map asking_of first
+  pending : drop (asked_at point) left ≡ first ++ rest
+
+both_true : (a b : Bool) → (a && b) ≡ true → (a ≡ true) × (b ≡ true)
+both_true true b h = (refl, h)
+both_true false b h = absurd cc
+
+pinned_is : (root : Root) (choice : Choice) → is_pin root choice ≡ true → choice ≡ choices.Pinned root
+pinned_is root (choices.Pinned pin) h = ap choices.Pinned (root_eq-true pin root h)
+pinned_is root (choices.Listed other) h = absurd cc
+pinned_is root choices.Absent h = absurd cc
+pinned_is root choices.Failed h = absurd cc
+
+asks_for : (request : Request) (path : NameAndVariant) (choice : Choice) → (path_eq request.path path && is_pin request.root choice) ≡ true → record { path = path; choice = choice } ≡ asking_of request
+asks_for request path choice h =
+    let both = both_true (path_eq request.path path) (is_pin request.root choice) h in
+    let as_asking : NameAndVariant → Choice → Asking = λ p c. record { path = p; choice = c } in
+    ap (λ (p : NameAndVariant). as_asking p choice) (sym (path_eq-true request.path path both.0)) ∙ ap (λ (c : Choice). as_asking request.path c) (pinned_is request.root choice both.1)
+
+asks_none : (request : Request) (requests : List Request) (point : Point) (number : ℕ) (act : Act) (to : Point) → asked_at point ≡ 1 → asking act ≡ [] → AsksFirst (request ∷ requests) requests point act
+asks_none request requests point number act to one none = record { first = []; is = none; pending = ap (λ (n : ℕ). drop n (request ∷ requests)) one }
+
+asks_first : (request : Request) (requests : List Request) (point : Point) (number : ℕ) (act : Act) (to : Point) → goes request point number act ≡ Some to → AsksFirst (request ∷ requests) requests point act
+asks_first request requests Rest number (Begin path choice reply seen) to h =
+    let is = picked (path_eq request.path path && is_pin request.root choice) (after_begin number reply) to h in
+    record { first = request ∷ []; is = ap (λ (a : Asking). a ∷ []) (asks_for request path choice is.0); pending = refl }
+asks_first request requests Rest number (Boot slot seen) to h = absurd cc
+asks_first request requests Rest number (Want asked reply) to h = absurd cc
+asks_first request requests Rest number (Room made len reply) to h = absurd cc
+asks_first request requests Rest number (Land landed len reply seen) to h = absurd cc
+asks_first request requests Rest number (Missed missed why) to h = absurd cc
+asks_first request requests Rest number (GaveUp given) to h = absurd cc
+asks_first request requests (Waiting ticket) number act to h = asks_none request requests (Waiting ticket) number act to refl (elsewhere act h) where
+  elsewhere : (act : Act) → goes request (Waiting ticket) number act ≡ Some to → asking act ≡ []
+  elsewhere (Begin path choice reply seen) h = absurd cc
+  elsewhere (Boot slot seen) h = refl
+  elsewhere (Want asked reply) h = refl
+  elsewhere (Room made len reply) h = refl
+  elsewhere (Land landed len reply seen) h = refl
+  elsewhere (Missed missed why) h = refl
+  elsewhere (GaveUp given) h = refl
+asks_first request requests (Granted ticket root) number act to h = asks_none request requests (Granted ticket root) number act to refl (elsewhere act h) where
+  elsewhere : (act : Act) → goes request (Granted ticket root) number act ≡ Some to → asking act ≡ []
+  elsewhere (Begin path choice reply seen) h = absurd cc
+  elsewhere (Boot slot seen) h = refl
+  elsewhere (Want asked reply) h = refl
+  elsewhere (Room made len reply) h = refl
+  elsewhere (Land landed len reply seen) h = refl
+  elsewhere (Missed missed why) h = refl
+  elsewhere (GaveUp given) h = refl
+asks_first request requests (Roomy ticket root) number act to h = asks_none request requests (Roomy ticket root) number act to refl (elsewhere act h) where
+  elsewhere : (act : Act) → goes request (Roomy ticket root) number act ≡ Some to → asking act ≡ []
+  elsewhere (Begin path choice reply seen) h = absurd cc
+  elsewhere (Boot slot seen) h = refl
+  elsewhere (Want asked reply) h = refl
+  elsewhere (Room made len reply) h = refl
+  elsewhere (Land landed len reply seen) h = refl
+  elsewhere (Missed missed why) h = refl
+  elsewhere (GaveUp given) h = refl
+asks_first request requests (Giving ticket) number act to h = asks_none request requests (Giving ticket) number act to refl (elsewhere act h) where
+  elsewhere : (act : Act) → goes request (Giving ticket) number act ≡ Some to → asking act ≡ []
+  elsewhere (Begin path choice reply seen) h = absurd cc
+  elsewhere (Boot slot seen) h = refl
+  elsewhere (Want asked reply) h = refl
+  elsewhere (Room made len reply) h = refl
+  elsewhere (Land landed len reply seen) h = refl
+  elsewhere (Missed missed why) h = refl
+  elsewhere (GaveUp given) h = refl
+asks_first request requests Cut number act to h = absurd (nowhere_on act h) where
+  nowhere_on : (act : Act) → goes request Cut number act ≡ Some to → ⊥
+  nowhere_on (Begin path choice reply seen) h = absurd cc
+  nowhere_on (Boot slot seen) h = absurd cc
+  nowhere_on (Want asked reply) h = absurd cc
+  nowhere_on (Room made len reply) h = absurd cc
+  nowhere_on (Land landed len reply seen) h = absurd cc
+  nowhere_on (Missed missed why) h = absurd cc
+  nowhere_on (GaveUp given) h = absurd cc
+
+-- the first requests, and as many more
+joined_first : (first rest : List Request) (more : List Asking) → more ≡ map asking_of (take (length more) rest) → map asking_of first ++ more ≡ map asking_of (take (length (map asking_of first ++ more)) (first ++ rest))
+joined_first [] rest more h = h
+joined_first (request ∷ first) rest more h = ap (λ (askings : List Asking). asking_of request ∷ askings) (joined_first first rest more h)
+
+joined : (first rest : List Request) (asked more : List Asking) (all : List Request) → asked ≡ map asking_of first → all ≡ first ++ rest → more ≡ map asking_of (take (length more) rest)
+    → asked ++ more ≡ map asking_of (take (length (asked ++ more)) all)
+joined first rest asked more all is are h =
+    subst (λ (a : List Asking). a ++ more ≡ map asking_of (take (length (a ++ more)) all)) (sym is)
+    (subst (λ (requests : List Request). map asking_of first ++ more ≡ map asking_of (take (length (map asking_of first ++ more)) requests)) (sym are) (joined_first first rest more h))
+
 -- what some events do to the progress
 record Counted (p : Progress) (es : List Event) (q : Progress) : Type 0 where
-  asked : counted asks es + length q.left + asked_at p.place ≡ length p.left + asked_at q.place
+  asked : length (askings es) + length q.left + asked_at p.point ≡ length p.left + asked_at q.point
   answered : counted answers es + length q.left ≡ length p.left
-  fetched : (root : Root) → counted (grants root) es + granted_at root p.place ≡ counted (ends root) es + granted_at root q.place
+  packages : askings es ≡ map asking_of (take (length (askings es)) (drop (asked_at p.point) p.left))
+  fetched : (root : Root) → counted (grants root) es + granted_at root p.point ≡ counted (grant_ends root) es + granted_at root q.point
 
-served_left : (request : Request) (requests : List Request) (to : Place) → length (served_to request requests to).left + rests to ≡ length requests + 1
+served_left : (request : Request) (requests : List Request) (to : Point) → length (served_to request requests to).left + rests to ≡ length requests + 1
 served_left request requests Rest = omega arith
 served_left request requests (Waiting ticket) = omega arith
 served_left request requests (Granted ticket root) = omega arith
@@ -152,29 +246,40 @@ served_left request requests (Roomy ticket root) = omega arith
 served_left request requests (Giving ticket) = omega arith
 served_left request requests Cut = omega arith
 
-served_place : (request : Request) (requests : List Request) (to : Place) → (served_to request requests to).place ≡ to
-served_place request requests Rest = refl
-served_place request requests (Waiting ticket) = refl
-served_place request requests (Granted ticket root) = refl
-served_place request requests (Roomy ticket root) = refl
-served_place request requests (Giving ticket) = refl
-served_place request requests Cut = refl
+pub served_point : (request : Request) (requests : List Request) (to : Point) → (served_to request requests to).point ≡ to
+served_point request requests Rest = refl
+served_point request requests (Waiting ticket) = refl
+served_point request requests (Granted ticket root) = refl
+served_point request requests (Roomy ticket root) = refl
+served_point request requests (Giving ticket) = refl
+served_point request requests Cut = refl
 
-mapped : (request : Request) (requests : List Request) (o : Option Place) (q : Progress) → option_map (served_to request requests) o ≡ Some q → (to : Place) × (o ≡ Some to) × (served_to request requests to ≡ q)
+pub mapped : (request : Request) (requests : List Request) (o : Option Point) (q : Progress) → option_map (served_to request requests) o ≡ Some q → (to : Point) × (o ≡ Some to) × (served_to request requests to ≡ q)
 mapped request requests None q h = absurd cc
 mapped request requests (Some to) q h = (to, refl, cc)
 
-moved : (left : List Request) (place : Place) (number : ℕ) (act : Act) (q : Progress) → goes_for left place number act ≡ Some q → (to : Place) × Stepped place act to × (q.place ≡ to) × (length q.left + rests to ≡ length left)
-moved [] place number act q h = absurd cc
-moved (request ∷ requests) place number act q h =
-    let m = mapped request requests (goes request place number act) q h in (
+served_pending : (request : Request) (requests : List Request) (to : Point) → drop (asked_at to) (served_to request requests to).left ≡ requests
+served_pending request requests Rest = refl
+served_pending request requests (Waiting ticket) = refl
+served_pending request requests (Granted ticket root) = refl
+served_pending request requests (Roomy ticket root) = refl
+served_pending request requests (Giving ticket) = refl
+served_pending request requests Cut = refl
+
+moved : (left : List Request) (point : Point) (number : ℕ) (act : Act) (q : Progress) → goes_for left point number act ≡ Some q
+    → (to : Point) × Stepped point act to × (q.point ≡ to) × (length q.left + rests to ≡ length left) × AsksFirst left (drop (asked_at q.point) q.left) point act
+moved [] point number act q h = absurd cc
+moved (request ∷ requests) point number act q h =
+    let m = mapped request requests (goes request point number act) q h in (
       m.0,
-      stepped request place number act m.0 m.1,
-      sym (ap (λ (p : Progress). p.place) m.2) ∙ served_place request requests m.0,
+      stepped request point number act m.0 m.1,
+      sym (ap (λ (p : Progress). p.point) m.2) ∙ served_point request requests m.0,
       omega (arith, served_left request requests m.0, ap (λ (p : Progress). length p.left) m.2),
+      subst (λ (rest : List Request). AsksFirst (request ∷ requests) rest point act) (sym (served_pending request requests m.0) ∙ ap (λ (n : ℕ). drop n (served_to request requests m.0).left) (sym (ap asked_at (served_point request requests m.0))) ∙ ap (λ (p : Progress). drop (asked_at p.point) p.left) m.2)
+          (asks_first request requests point number act m.0 m.1),
     )
 
-nowhere : (number : ℕ) (es : List Event) → leads_to None number es ≡ None
+pub nowhere : (number : ℕ) (es : List Event) → leads_to None number es ≡ None
 nowhere number [] = refl
 nowhere number (e ∷ es) = nowhere (number + 1) es
 
@@ -183,29 +288,31 @@ theirs : (p mid : Progress) (e : Event) (es : List Event) (q : Progress) → (e.
 theirs p mid e es q other same rest = subst (λ (x : Progress). Counted x (e ∷ es) q) (sym same) (record {
   asked = rw other (omega (arith, rest.asked));
   answered = rw other (omega (arith, rest.answered));
+  packages = rw other rest.packages;
   fetched = λ root. rw other (omega (arith, rest.fetched root));
 })
 
-ours : (p mid : Progress) (number : ℕ) (e : Event) (es : List Event) (q : Progress) → (e.lane == 1) ≡ true → goes_for p.left p.place number e.act ≡ Some mid → Counted mid es q → Counted p (e ∷ es) q
+ours : (p mid : Progress) (number : ℕ) (e : Event) (es : List Event) (q : Progress) → (e.lane == 1) ≡ true → goes_for p.left p.point number e.act ≡ Some mid → Counted mid es q → Counted p (e ∷ es) q
 ours p mid number e es q lane goes rest =
-    let m = moved p.left p.place number e.act mid goes in
-    let asked = subst (λ (place : Place). asks e.act + asked_at p.place ≡ asked_at place + answers e.act) (sym m.2) m.1.asked in
+    let m = moved p.left p.point number e.act mid goes in
+    let asked = subst (λ (point : Point). length (asking e.act) + asked_at p.point ≡ asked_at point + answers e.act) (sym m.2) m.1.asked in
     let answered : answers e.act + length mid.left ≡ length p.left = omega (arith, m.1.answered, m.3) in
     record {
-      asked = rw lane (omega (arith, asked, answered, rest.asked));
+      asked = rw lane (omega (arith, asked, answered, rest.asked, length-append (asking e.act) (askings es)));
       answered = rw lane (omega (arith, answered, rest.answered));
+      packages = rw lane (joined m.4.first (drop (asked_at mid.point) mid.left) (asking e.act) (askings es) (drop (asked_at p.point) p.left) m.4.is m.4.pending rest.packages);
       fetched = λ root.
-          let fetched = subst (λ (place : Place). grants root e.act + granted_at root p.place ≡ ends root e.act + granted_at root place) (sym m.2) (m.1.fetched root) in
+          let fetched = subst (λ (point : Point). grants root e.act + granted_at root p.point ≡ grant_ends root e.act + granted_at root point) (sym m.2) (m.1.fetched root) in
           rw lane (omega (arith, fetched, rest.fetched root));
     }
 
-one_progress : (p q : Progress) → ◌≡◌ {A = Option Progress} (Some p) (Some q) → p ≡ q
+pub one_progress : (p q : Progress) → ◌≡◌ {A = Option Progress} (Some p) (Some q) → p ≡ q
 one_progress p q h = cc
 
 counts : (p : Progress) (number : ℕ) (es : List Event) (q : Progress) → leads_to (Some p) number es ≡ Some q → Counted p es q
-counts p number [] q h = subst (Counted p []) (one_progress p q h) (record { asked = omega arith; answered = omega arith; fetched = λ root. omega arith })
+counts p number [] q h = subst (Counted p []) (one_progress p q h) (record { asked = omega arith; answered = omega arith; fetched = λ root. omega arith; packages = refl })
 counts p number (e ∷ es) q h = on (passes p number e) refl h (λ (mid : Progress). counts mid (number + 1) es q) where
-  made : (lane : Bool) (mid : Progress) → (e.lane == 1) ≡ lane → (if lane then goes_for p.left p.place number e.act else (if number == 1 then Some p else None)) ≡ Some mid → Counted mid es q → Counted p (e ∷ es) q
+  made : (lane : Bool) (mid : Progress) → (e.lane == 1) ≡ lane → (if lane then goes_for p.left p.point number e.act else (if number == 1 then Some p else None)) ≡ Some mid → Counted mid es q → Counted p (e ∷ es) q
   made true mid lane is rest = ours p mid number e es q lane is rest
   made false mid lane is rest = first (number == 1) is where
     first : (t : Bool) → ◌≡◌ {A = Option Progress} (if t then Some p else None) (Some mid) → Counted p (e ∷ es) q
@@ -216,7 +323,7 @@ counts p number (e ∷ es) q h = on (passes p number e) refl h (λ (mid : Progre
   on None is h rest = let none = sym (nowhere (number + 1) es) ∙ h in absurd cc
   on (Some mid) is h rest = made (e.lane == 1) mid refl is (rest mid h)
 
-pub balances : (requests left : List Request) (place : Place) (history : List Event) → progress requests history ≡ Some (record { left = left; place = place }) → Balances requests left place history
-balances requests left place history h =
-    let c = counts (record { left = requests; place = Rest }) 1 history (record { left = left; place = place }) h in
-    record { asked = omega (arith, c.asked); answered = c.answered; fetched = λ root. omega (arith, c.fetched root) }
+pub balances : (requests left : List Request) (point : Point) (history : List Event) → progress requests history ≡ Some (record { left = left; point = point }) → Balances requests left point history
+balances requests left point history h =
+    let c = counts (record { left = requests; point = Rest }) 1 history (record { left = left; point = point }) h in
+    record { packages = c.packages; asked = omega (arith, c.asked); answered = c.answered; fetched = λ root. omega (arith, c.fetched root) }

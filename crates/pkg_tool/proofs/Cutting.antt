@@ -1,8 +1,8 @@
 -- Texts with a given front, and texts that are cut at a byte.
-use Rattle.std.proofs.Common.{◌≡◌, ◌≢◌, ℕ, ◌+◌, true, false, List, ◌∷◌, ◌++◌, length, take, drop, All, refl, sym, ap, subst, ◌∙◌, arith}
+use Rattle.std.proofs.Common.{◌≡◌, ◌≢◌, ℕ, ◌+◌, true, false, List, ◌++◌, length, take, drop, sym, ap, ◌∙◌}
 use Rattle.std.specs.Str.{bytes_eq}
 use Rattle.std.proofs.Math.Seq.{take-append_seam}
-use Rattle.std.proofs.lemmas.List.{take-append-drop, length-append, get_or_at}
+use Rattle.std.proofs.lemmas.List.{take-append-drop}
 use Rattle.std.specs.Borrow.{Bor}
 use Rattle.std.specs.Prelude.{Option, Some, None, MatchOption, IfSome, IfNone}
 use Rattle.std.proofs.lemmas.Slice.Eq.{bytes_eq-Decides}
@@ -16,10 +16,6 @@ front_is_not text front differs rest e =
     let is : take (length front) text ≡ front = ap (take (length front)) e ∙ take-append_seam front rest in
     let same = (bytes_eq-Decides (take (length front) text) front).1 is in
     cc
-
-pub has_the_byte : (byte : ℕ) (text front back : List ℕ) → All (λ c. c ≢ byte) text → text ≡ front ++ byte ∷ back → ⊥
-has_the_byte byte text front back none e =
-    subst (All (λ c. c ≢ byte)) e none (length front) 0 (omega (arith, length-append front (byte ∷ back))) (get_or_at front byte back 0 (length front) refl)
 
 -- what `strip_prefix` answers
 pub found_behind : (text front : List ℕ) (r : Option (Bor (List ℕ))) → MatchOption r (bytes_eq (take (length front) text) front ≡ false)

@@ -8,9 +8,11 @@ mod Stock
 mod Parts
 mod StoreSteps
 mod StoreGrowth
-mod Settled
+mod Decided
 mod Going
 mod Carried
 mod Judged
 mod OneWay
 mod Counts
+mod Ending
+mod Resting

@@ -1,25 +1,9 @@
 -- The lines of a text, one after the other.
-use Rattle.std.proofs.Common.{◌≡◌, ◌≢◌, ℕ, ◌+◌, ◌<◌, false, eqb, List, [], ◌∷◌, ◌++◌, inl, inr, length, All, refl, sym, ap, subst, ◌∙◌, append_assoc, arith}
+use Rattle.std.proofs.Common.{◌≡◌, ℕ, ◌+◌, List, [], ◌∷◌, ◌++◌, inl, inr, length, sym, ap, subst, ◌∙◌, append_assoc, arith}
 use Rattle.std.proofs.lemmas.List.{append-nil, length-append}
-use Rattle.std.proofs.lemmas.List.Elements.{All-head, All-tail}
-use Rattle.std.proofs.lemmas.Bool.{ne_eqb}
 use Rattle.pkg_tool.specs.declared.script.Request.{Request}
-use Rattle.pkg_tool.specs.Script.{lines_of, onto_first, AskFor, Asks, IsSkipped}
-
-pub lines_cut : (front back : List ℕ) → All (λ c. c ≢ 10) front → lines_of (front ++ 10 ∷ back) ≡ front ∷ lines_of back
-lines_cut [] back none = refl
-lines_cut (c ∷ front) back none =
-    let apart : eqb c 10 ≡ false = ne_eqb c 10 (All-head (λ x. x ≢ 10) c front none) in
-    rw apart (ap (onto_first c) (lines_cut front back (All-tail (λ x. x ≢ 10) c front none)))
-
-pub lines_whole : (text : List ℕ) → All (λ c. c ≢ 10) text → 0 < length text → lines_of text ≡ text ∷ []
-lines_whole [] none some = absurd (omega arith)
-lines_whole (c ∷ []) none some =
-    let apart : eqb c 10 ≡ false = ne_eqb c 10 (All-head (λ x. x ≢ 10) c [] none) in
-    rw apart refl
-lines_whole (c ∷ d ∷ text) none some =
-    let apart : eqb c 10 ≡ false = ne_eqb c 10 (All-head (λ x. x ≢ 10) c (d ∷ text) none) in
-    rw apart (ap (onto_first c) (lines_whole (d ∷ text) (All-tail (λ x. x ≢ 10) c (d ∷ text) none) (omega arith)))
+use Rattle.pkg_names.specs.Text.{lines_of}
+use Rattle.pkg_tool.specs.Script.{AskFor, Asks, IsSkipped}
 
 pub AskFor-append : (xs ys : List (List ℕ)) (ps qs : List Request) → AskFor xs ps → AskFor ys qs → AskFor (xs ++ ys) (ps ++ qs)
 AskFor-append [] ys [] qs a b = b

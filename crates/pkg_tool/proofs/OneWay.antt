@@ -2,12 +2,13 @@
 use Rattle.std.proofs.Common.{◌≡◌, ℕ, List, [], ◌∷◌, inl, inr, refl, sym, ap, subst, ◌∙◌}
 use Rattle.pkg_names.specs.NameAndVariant.{NameAndVariant, Spells}
 use Rattle.pkg_names.specs.Root.{root_text}
+use Rattle.pkg_names.specs.Text.{slash, HasNo, lines_of}
 use Rattle.pkg_names.specs.declared.root.Root.{Root}
 use Rattle.pkg_names.proofs.Cuts.{same_halves}
-use Rattle.pkg_names.proofs.RootTexts.{root_once}
-use Rattle.pkg_names.proofs.PathTexts.{HasNoSlash, name_has_none, spelled_alone}
+use Rattle.pkg_names.proofs.Roots.{root_once}
+use Rattle.pkg_names.proofs.PathTexts.{name_has_none, spelled_alone}
 use Rattle.pkg_tool.specs.declared.script.Request.{Request}
-use Rattle.pkg_tool.specs.Script.{Asks, IsPinnedUrl, AskFor, IsScript, lines_of}
+use Rattle.pkg_tool.specs.Script.{Asks, IsPinnedUrl, AskFor, IsScript}
 use Rattle.pkg_tool.proofs.Grammar.{no_mark, no_space, url_parts, line_parts}
 use Rattle.pkg_tool.proofs.Judged.{skips_or_asks}
 
@@ -15,17 +16,17 @@ use Rattle.pkg_tool.proofs.Judged.{skips_or_asks}
 path_once : (path other : NameAndVariant) → path.name ≡ other.name → path.variant ≡ other.variant → path ≡ other
 path_once path other names variants = ap (λ (n : List ℕ). let p : NameAndVariant = record { name = n; variant = path.variant } in p) names ∙ ap (λ (v : List ℕ). let p : NameAndVariant = record { name = other.name; variant = v } in p) variants
 
-spelled_flat : (text : List ℕ) (path other : NameAndVariant) → HasNoSlash text → Spells text path → Spells text other → path ≡ other
+spelled_flat : (text : List ℕ) (path other : NameAndVariant) → HasNo slash text → Spells text path → Spells text other → path ≡ other
 spelled_flat text path other none h k =
     let a = spelled_alone text none path h in
     let b = spelled_alone text none other k in
     path_once path other (a.0 ∙ sym b.0) (a.1 ∙ sym b.1)
 
 spelled_once : (text : List ℕ) (path other : NameAndVariant) → Spells text path → Spells text other → path ≡ other
-spelled_once text path other (is, inr alone) k = spelled_flat text path other (subst HasNoSlash (sym alone.0) (name_has_none path.name is.0)) (is, inr alone) k
-spelled_once text path other (is, inl whole) (are, inr alone) = spelled_flat text path other (subst HasNoSlash (sym alone.0) (name_has_none other.name are.0)) (is, inl whole) (are, inr alone)
+spelled_once text path other (is, inr alone) k = spelled_flat text path other (subst (HasNo slash) (sym alone.0) (name_has_none path.name is.0)) (is, inr alone) k
+spelled_once text path other (is, inl whole) (are, inr alone) = spelled_flat text path other (subst (HasNo slash) (sym alone.0) (name_has_none other.name are.0)) (is, inl whole) (are, inr alone)
 spelled_once text path other (is, inl whole) (are, inl same) =
-    let halves = same_halves 47 path.name path.variant other.name other.variant (name_has_none path.name is.0) (name_has_none other.name are.0) (sym whole ∙ same) in
+    let halves = same_halves slash path.name path.variant other.name other.variant (name_has_none path.name is.0) (name_has_none other.name are.0) (sym whole ∙ same) in
     path_once path other halves.0 halves.1
 
 asked_once : (line : List ℕ) (request other : Request) → Asks line request → Asks line other → request ≡ other

@@ -11,7 +11,7 @@ use Rattle.store_model.specs.Step.{IsDue, step}
 use Rattle.store_model.specs.History.{after}
 use Rattle.store_model.proofs.Histories.{goes_on}
 use Rattle.pkg_tool.specs.declared.store.Held.{Held}
-use Rattle.pkg_tool.specs.Mirrors.{Mirrors, IsStore, with_parts, places_of}
+use Rattle.pkg_tool.specs.Mirrors.{Mirrors, IsStore, with_parts, spare_for}
 use Rattle.std.proofs.lemmas.List.{length-append}
 use Rattle.std.proofs.lemmas.Bool.{ne_eqb}
 
@@ -35,13 +35,13 @@ not_first history some = ne_eqb (length history + 1) 1 (λ e. absurd (omega arit
 -- The store after an event, where the code found this held and leaves that.
 pub noted : (history made : List Event) (spare later : ℕ) (blobs blobs' : List LookedAt) (opened opened' : List Root) (found held held' : Held) (e : Event) → IsStore history spare blobs opened found → found ≡ held
     → made ≡ history ++ e ∷ [] → ((length history + 1 == 1) ≡ false → Mirrors blobs opened held (after bare history) → Goes (after bare history) (length history + 1) e blobs' opened' held')
-    → (places_of held ≤ spare → places_of held' ≤ later) → IsStore made later blobs' opened' held'
-noted history made spare later blobs blobs' opened opened' found held held' e store is is_made goes places =
+    → (spare_for held ≤ spare → spare_for held' ≤ later) → IsStore made later blobs' opened' held'
+noted history made spare later blobs blobs' opened opened' found held held' e store is is_made goes enough =
     let goes_so = goes (not_first history store.begun) (subst (λ (h : Held). Mirrors blobs opened h (after bare history)) is store.mirrors) in
     let more = goes_on bare history e store.legal goes_so.due in
     subst (λ (es : List Event). IsStore es later blobs' opened' held') (sym is_made) (record {
       begun = omega (arith, length-append history (e ∷ []));
       legal = more.legal;
       mirrors = subst (Mirrors blobs' opened' held') (sym more.state) goes_so.mirrors;
-      places = places (subst (λ (h : Held). places_of h ≤ spare) is store.places);
+      enough = enough (subst (λ (h : Held). spare_for h ≤ spare) is store.enough);
     })

@@ -3,7 +3,8 @@ use Rattle.std.proofs.Common.{◌≡◌, Bool, true, false, ◌||◌, List, [], 
 use Rattle.std.proofs.lemmas.Bool.{or_cases}
 use Rattle.std.proofs.lemmas.List.Folds.{list_any-append}
 use Rattle.pkg_names.specs.declared.root.Root.{Root}
-use Rattle.package_book.specs.Books.{Books, root_eq}
+use Rattle.pkg_names.specs.Root.{root_eq}
+use Rattle.package_book.specs.Books.{Books}
 use Rattle.store_model.specs.declared.events.LookedAt.{LookedAt}
 use Rattle.store_model.specs.State.{Stored, is_stored, has_root}
 use Rattle.store_model.specs.Settling.{KnowsAll, with_looked, with_long}

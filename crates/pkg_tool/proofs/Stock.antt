@@ -6,11 +6,13 @@ use Rattle.std.specs.Option.{option_map}
 use Rattle.std.proofs.lemmas.List.Elements.{All-head, All-tail}
 use Rattle.pkg_names.specs.declared.root.Root.{Root}
 use Rattle.pkg_merkle.specs.Merkle.{merkle_root}
-use Rattle.package_book.specs.Books.{Books, root_eq}
+use Rattle.pkg_names.specs.Root.{root_eq}
+use Rattle.package_book.specs.Books.{Books}
 use Rattle.store_model.specs.declared.events.LookedAt.{LookedAt}
 use Rattle.store_model.specs.State.{Stored, stored_len, is_stored, has_root}
-use Rattle.store_model.specs.Settling.{meta_limit, with_looked, with_long, IsSeen}
-use Rattle.store_model.proofs.Roots.{root_eq-true, root_eq-refl}
+use Rattle.store_model.specs.declared.events.TheConstants.{META_LIMIT}
+use Rattle.store_model.specs.Settling.{with_looked, with_long, IsSeen}
+use Rattle.pkg_names.proofs.Roots.{root_eq-true, root_eq-refl}
 use Rattle.store_model.proofs.Knowing.{Knows, knows_long, knows_pair, knows_stored_long}
 use Rattle.pkg_tool.specs.Fetching.{landed_seen}
 use Rattle.pkg_tool.specs.Mirrors.{stored, blob_at, looks, short_blob, missing_of}
@@ -48,10 +50,10 @@ seen_blob blobs root have (Some b) e =
     let is = found (λ (x : LookedAt). merkle_root x.bytes ≡ x.root) (λ (x : LookedAt). root_eq x.root root) blobs b have e in
     let same = root_eq-true b.root root is.1 in
     let len = ap (stored_len (stored blobs)) same ∙ (stored_len_is blobs root ∙ ap (option_map (λ (x : LookedAt). length x.bytes)) e) in
-    short (nat_lt meta_limit (length b.bytes)) refl is.0 len where
-      short : (long : Bool) → nat_lt meta_limit (length b.bytes) ≡ long → merkle_root b.bytes ≡ b.root → stored_len (stored blobs) b.root ≡ Some (length b.bytes) → IsSeen (cond long [] (record { root = b.root; bytes = b.bytes } ∷ [])) (stored blobs)
+    short (nat_lt META_LIMIT (length b.bytes)) refl is.0 len where
+      short : (long : Bool) → nat_lt META_LIMIT (length b.bytes) ≡ long → merkle_root b.bytes ≡ b.root → stored_len (stored blobs) b.root ≡ Some (length b.bytes) → IsSeen (cond long [] (record { root = b.root; bytes = b.bytes } ∷ [])) (stored blobs)
       short true e a c = tt
-      short false e a c = (a, c, ltb-false meta_limit (length b.bytes) e, tt)
+      short false e a c = (a, c, ltb-false META_LIMIT (length b.bytes) e, tt)
 
 pub seen_is : (blobs : List LookedAt) (opened : List Root) (root : Root) → HaveRoots blobs → IsSeen (looks blobs opened root) (stored blobs)
 seen_is blobs opened root have = either (has_root opened root) where
@@ -61,8 +63,8 @@ seen_is blobs opened root have = either (has_root opened root) where
 
 -- the books know a stored blob that was looked at, or that is too long for that
 pub knows_landed : (books : Books) (stock : List Stored) (root : Root) (bytes : List ℕ) → stored_len stock root ≡ Some (length bytes) → Knows root (with_long (with_looked books (landed_seen root bytes)) stock)
-knows_landed books stock root bytes len = either (nat_lt meta_limit (length bytes)) refl where
-  either : (long : Bool) → nat_lt meta_limit (length bytes) ≡ long → Knows root (with_long (with_looked books (cond long [] (record { root = root; bytes = bytes } ∷ []))) stock)
+knows_landed books stock root bytes len = either (nat_lt META_LIMIT (length bytes)) refl where
+  either : (long : Bool) → nat_lt META_LIMIT (length bytes) ≡ long → Knows root (with_long (with_looked books (cond long [] (record { root = root; bytes = bytes } ∷ []))) stock)
   either true is = knows_stored_long books stock root (length bytes) len is
   either false is = knows_long (with_looked books (record { root = root; bytes = bytes } ∷ [])) stock root (knows_pair books (record { root = root; bytes = bytes }))
 
@@ -108,10 +110,10 @@ stored_before (b ∷ stock) root len x h = first (root_eq b.root x) h (stored_be
   first false h rest = rest h
 
 pub landed_is_seen : (root : Root) (bytes : List ℕ) (stock : List Stored) → merkle_root bytes ≡ root → stored_len stock root ≡ Some (length bytes) → IsSeen (landed_seen root bytes) stock
-landed_is_seen root bytes stock is len = either (nat_lt meta_limit (length bytes)) refl where
-  either : (long : Bool) → nat_lt meta_limit (length bytes) ≡ long → IsSeen (cond long [] (record { root = root; bytes = bytes } ∷ [])) stock
+landed_is_seen root bytes stock is len = either (nat_lt META_LIMIT (length bytes)) refl where
+  either : (long : Bool) → nat_lt META_LIMIT (length bytes) ≡ long → IsSeen (cond long [] (record { root = root; bytes = bytes } ∷ [])) stock
   either true e = tt
-  either false e = (is, len, ltb-false meta_limit (length bytes) e, tt)
+  either false e = (is, len, ltb-false META_LIMIT (length bytes) e, tt)
 
 -- what is missing, or isn't
 pub missing_some : (blobs : List LookedAt) (root name : Root) → missing_of blobs root ≡ Some name → (is_stored (stored blobs) root ≡ false) × (root ≡ name)

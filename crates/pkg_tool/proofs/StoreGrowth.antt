@@ -1,17 +1,17 @@
 -- The events of the plain store that change more than what is held: a package that is asked for, one that is opened, a blob that lands.
 use Rattle.std.proofs.Common.{◌≡◌, ℕ, Bool, true, false, cond, List, [], ◌∷◌, ◌++◌, ◌⊎◌, inl, inr, length, Some, None, is_some, refl, sym, ap, subst, ◌∙◌}
 use Rattle.std.specs.Prelude.{◌==◌}
-use Rattle.std.proofs.lemmas.Bool.{or_cases}
+use Rattle.std.proofs.lemmas.Bool.{or_cases, eq-eqb}
 use Rattle.std.proofs.lemmas.List.{map-append}
 use Rattle.std.proofs.lemmas.List.Elements.{All-push}
-use Rattle.pkg_names.specs.NameAndVariant.{NameAndVariant}
+use Rattle.pkg_names.specs.NameAndVariant.{NameAndVariant, path_eq}
 use Rattle.pkg_names.specs.declared.root.Root.{Root}
 use Rattle.pkg_names.specs.declared.pinned.Pinned.{Pinned}
 use Rattle.pkg_merkle.specs.Merkle.{merkle_root}
-use Rattle.package_book.specs.Books.{root_eq}
+use Rattle.pkg_names.specs.Root.{root_eq}
 use Rattle.package_book.specs.Names.{names_alone}
 use Rattle.package_indexes.specs.declared.Choice.TheVariants as choices
-use Rattle.package_indexes.specs.Indexes.{roots_of, root_at, with_root, path_eq}
+use Rattle.package_indexes.specs.Indexes.{roots_of, root_at, with_root}
 use Rattle.store_model.specs.declared.events.Act.TheVariants as acts
 use Rattle.store_model.specs.declared.events.BeginEnd.TheVariants as begins
 use Rattle.store_model.specs.declared.events.WantEnd.TheVariants as wants
@@ -19,13 +19,12 @@ use Rattle.store_model.specs.declared.events.LookedAt.{LookedAt}
 use Rattle.store_model.specs.State.{State, Stored, Directory, stored_len, is_stored, has_root, protected_in}
 use Rattle.store_model.specs.Settling.{HasLooked, with_looked, with_long}
 use Rattle.store_model.specs.Step.{IsDue, next}
-use Rattle.store_model.proofs.Roots.{root_eq-true, root_eq-same, root_eq-refl}
+use Rattle.pkg_names.proofs.Roots.{root_eq-true, root_eq-same, root_eq-refl}
 use Rattle.store_model.proofs.Knowing.{Knows, known_after}
 use Rattle.pkg_tool.specs.declared.store.Held.TheVariants.{Nothing, Ticket, Claim}
 use Rattle.pkg_tool.specs.Fetching.{landed_seen}
 use Rattle.pkg_tool.specs.Holding.{by_lane}
 use Rattle.pkg_tool.specs.Mirrors.{Mirrors, stored, looks}
-use Rattle.std.proofs.lemmas.Bool.{eq-eqb}
 use Rattle.pkg_tool.proofs.Protected.{Among, among_either, among_left, among_right, still_known, same_known}
 use Rattle.pkg_tool.proofs.Stock.{known_or_open, seen_is, knows_landed, landed_is_seen, stored_push, stored_last, stored_before}
 use Rattle.pkg_tool.proofs.Parts.{Goes, shaped}

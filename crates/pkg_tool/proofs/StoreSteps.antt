@@ -5,7 +5,8 @@ use Rattle.std.proofs.lemmas.List.Elements.{All-nil}
 use Rattle.abr_record.specs.declared.Slot.TheVariants as slots
 use Rattle.fetch_queue.specs.declared.FetchEnd.{FetchEnd}
 use Rattle.pkg_names.specs.declared.root.Root.{Root}
-use Rattle.package_book.specs.Books.{Books, root_eq}
+use Rattle.pkg_names.specs.Root.{root_eq}
+use Rattle.package_book.specs.Books.{Books}
 use Rattle.package_book.specs.Names.{names, names_alone}
 use Rattle.store_model.specs.declared.events.Act.{Act}
 use Rattle.store_model.specs.declared.events.Act.TheVariants as acts
@@ -20,7 +21,7 @@ use Rattle.store_model.specs.declared.events.WantEnd.TheVariants as wants
 use Rattle.store_model.specs.declared.events.Cause.TheVariants as causes
 use Rattle.fetch_queue.specs.declared.FetchEnd.TheVariants as ends
 use Rattle.package_indexes.specs.Indexes.{roots_of}
-use Rattle.store_model.proofs.Roots.{root_eq-refl}
+use Rattle.pkg_names.proofs.Roots.{root_eq-refl}
 use Rattle.store_model.proofs.Knowing.{known_after}
 use Rattle.pkg_tool.specs.declared.store.Held.{Held}
 use Rattle.pkg_tool.specs.declared.store.Held.TheVariants.{Nothing, Ticket, Claim}
@@ -141,5 +142,5 @@ booted spare = record {
   begun = omega arith;
   legal = (record { whole = refl; boots = refl; goes_on = refl; due = record { lane = refl; chosen = refl }; looked = λ root p q. absurd cc; seen = tt }, tt);
   mirrors = record { path = record { name = []; variant = [] }; shape = refl; dirs = refl; roots = All-nil _; fresh = tt; known = λ root p q. absurd cc };
-  places = omega arith;
+  enough = omega arith;
 }

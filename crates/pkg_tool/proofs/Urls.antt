@@ -1,8 +1,7 @@
 -- A text with a front, a mark behind a byte, and two parts is taken apart in one way.
 use Rattle.std.proofs.Common.{◌≡◌, ◌≢◌, ℕ, List, ◌∷◌, ◌++◌, All, sym, ◌∙◌}
 use Rattle.std.proofs.lemmas.List.{append_cancel_left}
-use Rattle.pkg_names.proofs.Cuts.{same_halves}
-use Rattle.pkg_tool.proofs.Cutting.{has_the_byte}
+use Rattle.pkg_names.proofs.Cuts.{same_halves, has_the_byte}
 
 module _ (byte : ℕ) (front text : List ℕ) where
   -- the front isn't there

@@ -10,14 +10,15 @@ use Rattle.pkg_merkle.specs.Merkle.{merkle_root}
 use Rattle.store_model.specs.declared.events.Miss.TheVariants as misses
 use Rattle.store_model.specs.Step.{seen_by}
 use Rattle.pkg_names.specs.declared.root.Root.{Root}
-use Rattle.pkg_tool.specs.Files.{File, file_at}
-use Rattle.store_model.specs.Settling.{meta_limit}
+use Rattle.pkg_tool.specs.declared.repo.File.{File}
+use Rattle.pkg_tool.specs.Files.{file_at}
+use Rattle.store_model.specs.declared.events.TheConstants.{META_LIMIT}
 use Rattle.fetch_queue.specs.declared.FetchEnd.{FetchEnd}
 use Rattle.fetch_queue.specs.declared.FetchEnd.TheVariants as ends
 
 -- what the landing of these bytes as the meta blob of a package that arrives looks at
 abbrev pub landed_seen : Root → List ℕ → List LookedAt
-landed_seen root bytes = if nat_lt meta_limit (length bytes) then [] else record { root = root; bytes = bytes } ∷ []
+landed_seen root bytes = if nat_lt META_LIMIT (length bytes) then [] else record { root = root; bytes = bytes } ∷ []
 
 -- how the bytes land under a root
 abbrev pub Lands : Root → List ℕ → Option FetchEnd → List LookedAt → Type 0
@@ -45,8 +46,8 @@ read_misses (e ∷ es) = read_miss e.act + read_misses es
 abbrev pub Carries : List Event → Type 0
 Carries history = All (λ (e : Event). All (λ (b : LookedAt). merkle_root b.bytes ≡ b.root) (seen_by e.act)) history
 
--- The events that came fit the files, where they are told; and for each file that could not be read the
--- repository's count rose.
-pub record Fetches (files : Option (List File)) (before after : ℕ) (old new : List Event) : Type 0 where
-  pub fits : IfSome files (λ all. All (λ (e : Event). FitsFiles all e.act) old → All (λ (e : Event). FitsFiles all e.act) new)
-  pub reads : (start : ℕ) → RoseBy (read_misses old) start before → RoseBy (read_misses new) start after
+-- Each event fits the files, where they are told; and the repository's count of faults rose for each
+-- file that could not be read.
+pub record Fetches (files : Option (List File)) (before after : ℕ) (history : List Event) : Type 0 where
+  pub fits : IfSome files (λ all. All (λ (e : Event). FitsFiles all e.act) history)
+  pub reads : RoseBy (read_misses history) before after

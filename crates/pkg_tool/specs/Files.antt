@@ -1,13 +1,13 @@
 -- The files of a repository.
-use Rattle.std.specs.Prelude.{ℕ, List, [], ◌∷◌, Option, Some, None, if◌then◌else◌}
+use Rattle.std.specs.Prelude.{ℕ, List, Option, find}
+use Rattle.std.specs.Option.{option_map}
 use Rattle.pkg_names.specs.declared.root.Root.{Root}
-use Rattle.package_book.specs.Books.{root_eq}
+use Rattle.pkg_names.specs.Root.{root_eq}
+use Rattle.pkg_tool.specs.declared.repo.File.{File}
 
-pub record File : Type 0 where
-  pub root : Root
-  pub bytes : List ℕ
+-- the first file under this root, and its bytes
+abbrev pub file_under : List File → Root → Option File
+file_under files root = find (λ (file : File). root_eq file.root root) files
 
--- the bytes of the first file under this root
 abbrev pub file_at : List File → Root → Option (List ℕ)
-file_at [] root = None
-file_at (file ∷ files) root = if root_eq file.root root then Some file.bytes else file_at files root
+file_at files root = option_map (λ (file : File). file.bytes) (file_under files root)

@@ -11,8 +11,8 @@ use Rattle.store_model.specs.declared.events.WantEnd.{WantEnd}
 use Rattle.store_model.specs.declared.events.WantEnd.TheVariants.{Fetch}
 use Rattle.store_model.specs.State.{is_stored, bare}
 use Rattle.store_model.specs.History.{after}
-use Rattle.pkg_tool.specs.Serving.{Place}
-use Rattle.pkg_tool.specs.Serving.Place.{Rest, Waiting, Granted, Roomy}
+use Rattle.pkg_tool.specs.Serving.{Point}
+use Rattle.pkg_tool.specs.Serving.Point.{Rest, Waiting, Granted, Roomy}
 use Rattle.pkg_tool.specs.declared.store.Held.{Held}
 use Rattle.pkg_tool.specs.declared.store.Held.TheVariants.{Nothing, Ticket, Claim}
 
@@ -34,11 +34,11 @@ held_after_want ticket (Fetch root) = Claim ticket root None
 held_after_want ticket reply = Nothing
 
 -- where the lane is while it holds this
-abbrev pub place_of : Held → Place
-place_of Nothing = Rest
-place_of (Ticket ticket root mark) = Waiting ticket
-place_of (Claim ticket root None) = Granted ticket root
-place_of (Claim ticket root (Some len)) = Roomy ticket root
+abbrev pub point_of : Held → Point
+point_of Nothing = Rest
+point_of (Ticket ticket root mark) = Waiting ticket
+point_of (Claim ticket root None) = Granted ticket root
+point_of (Claim ticket root (Some len)) = Roomy ticket root
 
 -- how a miss marks the package
 abbrev pub mark_of : Miss → Option FetchEnd
@@ -82,5 +82,5 @@ mark_held (Ticket ticket root mark) = mark
 mark_held held = None
 
 -- the blob of the package that arrives is stored, or won't be
-abbrev pub is_settled : Session → Bool
-is_settled session = is_some (mark_held session.held) || is_stored (after bare session.history).stock (root_of session.held)
+abbrev pub is_decided : Session → Bool
+is_decided session = is_some (mark_held session.held) || is_stored (after bare session.history).stock (root_of session.held)

@@ -2,7 +2,7 @@ pub mod Words
 pub mod Written
 pub mod Files
 pub mod Replies
-pub mod Places
+pub mod Noted
 pub mod Text
 pub mod Script
 pub mod Serving
@@ -10,4 +10,7 @@ pub mod Holding
 pub mod Mirrors
 pub mod Fetching
 pub mod Running
+pub mod Steps
+pub mod MemoryRepo
 pub mod Counting
+pub mod Resting

@@ -4,7 +4,7 @@ use Rattle.abr_record.specs.declared.Slot.TheVariants as slots
 use Rattle.pkg_names.specs.NameAndVariant.{NameAndVariant}
 use Rattle.pkg_names.specs.declared.root.Root.{Root}
 use Rattle.pkg_merkle.specs.Merkle.{merkle_root}
-use Rattle.package_book.specs.Books.{root_eq}
+use Rattle.pkg_names.specs.Root.{root_eq}
 use Rattle.store_model.specs.declared.events.Event.{Event}
 use Rattle.store_model.specs.declared.events.LookedAt.{LookedAt}
 use Rattle.store_model.specs.State.{State, Stored, Claim as Claimed, Arrival, Directory, is_stored, has_root, protected_in, bare}
@@ -59,13 +59,13 @@ pub record Mirrors (blobs : List LookedAt) (opened : List Root) (held : Held) (s
   pub known : KnowsAll s.books (protected_in s) s.stock
 
 -- the places in the history that the ends of what is held take
-abbrev pub places_of : Held → ℕ
-places_of Nothing = 0
-places_of (Ticket ticket root mark) = 1
-places_of (Claim ticket root len) = 2
+abbrev pub spare_for : Held → ℕ
+spare_for Nothing = 0
+spare_for (Ticket ticket root mark) = 1
+spare_for (Claim ticket root len) = 2
 
 pub record IsStore (history : List Event) (spare : ℕ) (blobs : List LookedAt) (opened : List Root) (held : Held) : Type 0 where
   pub begun : 0 < length history
   pub legal : IsLegal bare history
   pub mirrors : Mirrors blobs opened held (after bare history)
-  pub places : places_of held ≤ spare
+  pub enough : spare_for held ≤ spare

@@ -3,6 +3,6 @@ use Rattle.std.specs.Prelude.{ℕ, List}
 use Rattle.store_model.specs.declared.events.Event.{Event}
 
 -- the events, and how many more fit without memory
-pub record Places : Type 0 where
+pub record Noted : Type 0 where
   pub events : List Event
   pub spare : ℕ

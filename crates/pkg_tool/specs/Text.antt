@@ -7,6 +7,7 @@ use Rattle.fetch_queue.specs.declared.FetchEnd.{FetchEnd}
 use Rattle.fetch_queue.specs.declared.FetchEnd.TheVariants as ends
 use Rattle.pkg_names.specs.NameAndVariant.{path_text}
 use Rattle.pkg_names.specs.Root.{root_text}
+use Rattle.pkg_names.specs.Text.{line_feed}
 use Rattle.store_model.specs.declared.events.Event.{Event}
 use Rattle.store_model.specs.declared.events.Act.{Act}
 use Rattle.store_model.specs.declared.events.Act.TheVariants.{Boot, Begin, Want, Room, Land, Missed, GaveUp}
@@ -82,7 +83,7 @@ outcome_text e = if e.broke then codes " broke" else answer_text e.act
 
 -- one event: its number, its lane, its call and the outcome
 abbrev pub line : ℕ → Event → List ℕ
-line number e = decimal number ++ codes " " ++ decimal e.lane ++ codes " " ++ call_text e.act ++ outcome_text e ++ 10 ∷ []
+line number e = decimal number ++ codes " " ++ decimal e.lane ++ codes " " ++ call_text e.act ++ outcome_text e ++ line_feed ∷ []
 
 -- the lines of events from this number on
 abbrev pub lines_from : ℕ → List Event → List ℕ

@@ -1,11 +1,12 @@
 -- The words of a command.
 use Rattle.std.specs.Prelude.{ℕ, ◌==◌, ◌&&◌, not, Bool, false, List, [], ◌∷◌, codes}
 use Rattle.std.specs.Str.{bytes_eq}
+use Rattle.pkg_names.specs.Text.{hyphen}
 
 -- a word that may name something: not empty, and not an option
 abbrev pub is_word : List ℕ → Bool
 is_word [] = false
-is_word (c ∷ cs) = not (c == 45)
+is_word (c ∷ cs) = not (c == hyphen)
 
 -- `run` and three such words
 abbrev pub are_run_words : List (List ℕ) → Bool

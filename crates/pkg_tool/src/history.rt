@@ -12,9 +12,9 @@ pub(crate) struct History {
 
 impl Model for History {
     ghost use Rattle.std.specs.Prelude.{◌-◌, vec_len, vec_capacity};
-    ghost use Rattle.pkg_tool.specs.Places.{Places};
+    ghost use Rattle.pkg_tool.specs.Noted.{Noted};
 
-    ghost Value = { Places };
+    ghost Value = { Noted };
 
     ghost view = { λ h. record { events = h.events.items; spare = vec_capacity h.events - vec_len h.events } };
 }

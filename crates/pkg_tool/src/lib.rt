@@ -4,6 +4,7 @@
 mod history;
 mod input;
 mod laws;
+mod mem_repo;
 mod output;
 mod print;
 mod repo;
@@ -13,10 +14,10 @@ mod serve;
 mod store;
 mod words;
 
-pub use laws::{scripts_are_judged, scripts_are_read_one_way, serving_balances};
-pub use repo::{FILE_LIMIT, FileReply, FirstRepo};
+pub use laws::{
+    limits, scripts_are_judged, scripts_are_read_one_way, serving_balances, serving_holds,
+};
+pub use mem_repo::MemRepo;
+pub use repo::{FILE_LIMIT, File, FileReply, FirstRepo};
 pub use running::{FirstEnded, Status, run};
-pub use script::SCRIPT_LIMIT;
-
-#[cfg(test)]
-mod tests;
+pub use script::{REQUEST_LIMIT, SCRIPT_LIMIT, TextFault};

@@ -1,6 +1,7 @@
 ghost use Rattle.std.specs.Prelude.{◌≡◌, ℕ, ◌≤◌, List, length, Option, Some, None, IfSome};
 ghost use Rattle.pkg_names.specs.Streams.{Rose};
-ghost use Rattle.pkg_tool.specs.Files.{File, file_at};
+ghost use Rattle.pkg_tool.specs.declared.repo.File.{File as FileOf};
+ghost use Rattle.pkg_tool.specs.Files.{file_at};
 ghost use Rattle.pkg_tool.specs.Replies.{IfFound};
 
 use pkg_merkle::BYTES_LIMIT;
@@ -9,6 +10,13 @@ use std::alloc::Global;
 
 /// The longest file that a repository gives, in bytes.
 pub const FILE_LIMIT: usize = BYTES_LIMIT;
+
+/// A file of a repository.
+#[derive(Debug, Drop)]
+pub struct File {
+    pub root: Root,
+    pub bytes: Bytes,
+}
 
 /// What a repository answers for a root.
 #[derive(Debug, Drop)]
@@ -23,7 +31,7 @@ pub enum FileReply {
 /// A repository that gives each file whole.
 pub trait FirstRepo {
     /// The files, where the repository tells them. The first one of a root counts.
-    ghost files: { Self → Option (List File) };
+    ghost files: { Self → Option (List FileOf) };
 
     /// How often it has failed. It never falls, and stands still at the end of its type.
     ghost faults: { Self → ℕ };

@@ -1,22 +1,24 @@
 //! The program's call: a script is served over the store, and the history printed.
 
-ghost use Rattle.std.specs.Prelude.{◌≡◌, ◌↔◌, ◌⊎◌, ◌<◌, ◌≤◌, ℕ, [], true, false, length, map, IfSome, IfOk, IsErrOf, IfErr};
+ghost use Rattle.std.specs.Prelude.{◌≡◌, ◌↔◌, ◌<◌, ◌≤◌, ℕ, [], true, false, length, map, IfSome, IsSomeAnd, IfOk, IfErr};
 ghost use Rattle.std.specs.String.{string_bytes};
 ghost use Rattle.pkg_names.specs.Streams.{Rose};
 ghost use Rattle.store_model.specs.State.{bare};
-ghost use Rattle.store_model.specs.History.{IsLegal};
+ghost use Rattle.store_model.specs.History.{IsLegal, after};
 ghost use Rattle.pkg_tool.specs.Words.{are_run_words};
-ghost use Rattle.pkg_tool.specs.Script.{IsScript};
+ghost use Rattle.pkg_tool.specs.Script.{IsBadAt, IsScript};
 ghost use Rattle.pkg_tool.specs.Written.{Wrote, WroteFront};
 ghost use Rattle.pkg_tool.specs.Text.{text as text_of_events};
 ghost use Rattle.pkg_tool.specs.Fetching.{Fetches, Carries};
-ghost use Rattle.pkg_tool.specs.Running.{IsBadAt, IsRefusal, IsReadEnd, IsPrintEnd, IsServed, ServesTo, ServesScript, ends, number_of};
+ghost use Rattle.pkg_tool.specs.Running.{IsRefusal, Leaves, ServesTo, number_of};
+ghost use Rattle.pkg_tool.specs.Resting.{HoldsNothing};
+ghost use Rattle.pkg_tool.specs.Steps.{IsReadEnd, IsPrintEnd, last_status};
 
 use crate::input::{InputFault, read_all};
 use crate::output::write_all;
 use crate::print::text_of;
 use crate::repo::FirstRepo;
-use crate::script::{Request, SCRIPT_LIMIT, ScriptFault, read_script};
+use crate::script::{Request, SCRIPT_LIMIT, ScriptFault, TextFault, read_script};
 use crate::serve::serve;
 use crate::store::Store;
 use crate::words::are_run;
@@ -66,6 +68,8 @@ pub struct FirstEnded<R> {
     /// Memory was short before the printing: the store was not opened, or the last request was given
     /// up, and no later one was begun.
     pub starved: bool,
+    /// What is wrong with the script, at `BadScript` alone.
+    pub text_fault: Option<TextFault>,
 }
 
 /// Serves a script: its requests in order, each to its end, over a store in memory. The history is
@@ -78,27 +82,29 @@ pub fn run<R: FirstRepo, S: Source, W: Sink>(
     out: &mut W,
 ) -> FirstEnded<R>
     ensures bad_words { (result.status ≡ Status.BadWords) ↔ (are_run_words (map string_bytes words.now) ≡ false) }
-    ensures bad_script { (line : ℕ) → result.status ≡ Status.BadScript line → IfSome (S.left script.old) (λ text. IsBadAt text line) }
+    ensures bad_script { (line : ℕ) → result.status ≡ Status.BadScript line →
+        IsSomeAnd result.text_fault (λ fault. IfSome (S.left script.old) (λ text. IsBadAt fault text line)) }
     ensures script_fault { result.status ≡ Status.ScriptFault → Rose (S.faults script.old) (S.faults script.new) }
     ensures sink_fault { result.status ≡ Status.SinkFault → Rose (W.faults out.old) (W.faults out.new) }
-    ensures refused { IsRefusal result.status → result.history.items ≡ [] }
+    ensures unread { result.status ≡ Status.BadWords → script.new ≡ script.old }
+    ensures unasked { IsRefusal result.status → result.repo ≡ repo }
+    ensures unwritten { IsRefusal result.status → out.new ≡ out.old }
+    ensures leaves { Leaves result.status (S.left script.old) result.starved result.history.items }
     ensures legal { IsLegal bare result.history.items }
+    ensures nothing_held { HoldsNothing (after bare result.history.items) }
     ensures carried { Carries result.history.items }
-    ensures served { IsServed result.status → ServesScript (S.left script.old) result.starved result.history.items }
-    ensures begun { (result.history.items ≡ []) ⊎ ServesScript (S.left script.old) result.starved result.history.items }
-    ensures all { result.starved ≡ false → IsRefusal result.status ⊎ ServesScript (S.left script.old) false result.history.items }
-    ensures done { result.status ≡ Status.Done → (result.starved ≡ false) × (0 < length result.history.items) }
-    ensures printed { result.status ≡ Status.Done → Wrote (W.written out.old) (text_of_events result.history.items) (W.written out.new) }
+    ensures printed { result.status ≡ Status.Done →
+        Wrote (W.written out.old) (text_of_events result.history.items) (W.written out.new) }
     ensures front { WroteFront (W.written out.old) (text_of_events result.history.items) (W.written out.new) }
-    ensures fetches { Fetches (R.files repo) (R.faults repo) (R.faults result.repo) [] result.history.items }
+    ensures fetches { Fetches (R.files repo) (R.faults repo) (R.faults result.repo) result.history.items }
     ensures files { R.files result.repo ≡ R.files repo }
 {
     if !are_run(words) {
-        return refused(alloc, Status::BadWords, repo);
+        return refused(alloc, Refusal::of(Status::BadWords), repo);
     }
     let requests = match requests_of(alloc, script) {
         Ok(requests) => requests,
-        Err(status) => return refused(alloc, status, repo),
+        Err(refusal) => return refused(alloc, refusal, repo),
     };
     let mut repo = repo;
     let (history, starved) = serve_all(alloc, &mut repo, &requests);
@@ -108,40 +114,72 @@ pub fn run<R: FirstRepo, S: Source, W: Sink>(
         repo,
         history,
         starved,
+        text_fault: None,
+    }
+}
+
+// How a run ends that has no requests.
+#[derive(Clone, Copy, Debug, PartialEq, Eq)]
+struct Refusal {
+    status: Status,
+    text_fault: Option<TextFault>,
+}
+
+impl Refusal {
+    fn of(status: Status) -> Refusal
+        ensures { result ≡ record { status = status; text_fault = None } }
+    {
+        Refusal {
+            status,
+            text_fault: None,
+        }
+    }
+
+    fn of_text(line: u32, fault: TextFault) -> Refusal
+        ensures { result ≡ record { status = Status.BadScript line; text_fault = Some fault } }
+    {
+        Refusal {
+            status: Status::BadScript { line },
+            text_fault: Some(fault),
+        }
     }
 }
 
 // A run that ends before the store is opened.
-fn refused<R: FirstRepo>(alloc: Global, status: Status, repo: R) -> FirstEnded<R>
-    ensures status { result.status ≡ status }
+fn refused<R: FirstRepo>(alloc: Global, refusal: Refusal, repo: R) -> FirstEnded<R>
+    ensures status { result.status ≡ refusal.status }
+    ensures text_fault { result.text_fault ≡ refusal.text_fault }
     ensures repo { result.repo ≡ repo }
     ensures history { result.history.items ≡ [] }
-    ensures starved { result.starved ≡ true ↔ status ≡ Status.NoMemory }
+    ensures starved { result.starved ≡ true ↔ refusal.status ≡ Status.NoMemory }
 {
     FirstEnded {
-        status,
+        status: refusal.status,
         repo,
         history: Vec::new(alloc),
-        starved: status == Status::NoMemory,
+        starved: refusal.status == Status::NoMemory,
+        text_fault: refusal.text_fault,
     }
 }
 
 // The requests of the script.
-fn requests_of<S: Source>(alloc: Global, script: &mut S) -> Result<Vec<Request>, Status>
+fn requests_of<S: Source>(alloc: Global, script: &mut S) -> Result<Vec<Request>, Refusal>
     ensures ok { IfOk result (λ requests. IfSome (S.left script.old) (λ text. IsScript text requests.items)) }
-    ensures bad { (line : ℕ) → IsErrOf result (Status.BadScript line) → IfSome (S.left script.old) (λ text. IsBadAt text line) }
-    ensures fault { IsErrOf result Status.ScriptFault → Rose (S.faults script.old) (S.faults script.new) }
-    ensures end { IfErr result IsReadEnd }
+    ensures bad { IfErr result (λ refusal. (line : ℕ) → refusal.status ≡ Status.BadScript line →
+        IsSomeAnd refusal.text_fault (λ fault. IfSome (S.left script.old) (λ text. IsBadAt fault text line))) }
+    ensures fault { IfErr result (λ refusal. refusal.status ≡ Status.ScriptFault →
+        Rose (S.faults script.old) (S.faults script.new)) }
+    ensures end { IfErr result (λ refusal. IsReadEnd refusal.status) }
 {
     match read_all(alloc, script, SCRIPT_LIMIT) {
         Ok(text) => match read_script(alloc, &text) {
             Ok(requests) => Ok(requests),
-            Err(ScriptFault::Line { number }) => Err(Status::BadScript { line: number }),
-            Err(ScriptFault::NoMemory) => Err(Status::NoMemory),
+            Err(ScriptFault::Line { number, fault }) => Err(Refusal::of_text(number, fault)),
+            Err(ScriptFault::NoMemory) => Err(Refusal::of(Status::NoMemory)),
         },
-        Err(InputFault::TooLong) => Err(Status::BadScript { line: 0 }),
-        Err(InputFault::Failed) => Err(Status::ScriptFault),
-        Err(InputFault::NoMemory) => Err(Status::NoMemory),
+        Err(InputFault::TooLong) => Err(Refusal::of_text(0, TextFault::TooLong)),
+        Err(InputFault::Failed) => Err(Refusal::of(Status::ScriptFault)),
+        Err(InputFault::NoMemory) => Err(Refusal::of(Status::NoMemory)),
     }
 }
 
@@ -149,8 +187,8 @@ fn requests_of<S: Source>(alloc: Global, script: &mut S) -> Result<Vec<Request>,
 fn serve_all<R: FirstRepo>(alloc: Global, repo: &mut R, requests: &[Request]) -> (Vec<Event>, bool)
     ensures legal { IsLegal bare result.0.items }
     ensures served { ServesTo result.1 requests.now result.0.items }
-    ensures begun { result.1 ≡ false → 0 < length result.0.items }
-    ensures fetches { Fetches (R.files repo.old) (R.faults repo.old) (R.faults repo.new) [] result.0.items }
+    ensures empty { result.0.items ≡ [] → result.1 ≡ true }
+    ensures fetches { Fetches (R.files repo.old) (R.faults repo.old) (R.faults repo.new) result.0.items }
     ensures files { R.files repo.new ≡ R.files repo.old }
 {
     let Ok(mut store) = Store::open(alloc) else {
@@ -169,9 +207,11 @@ fn serve_all<R: FirstRepo>(alloc: Global, repo: &mut R, requests: &[Request]) ->
 // Prints a history.
 fn print<W: Sink>(alloc: Global, out: &mut W, history: &[Event]) -> Status
     ensures end { IsPrintEnd result }
-    ensures done { result ≡ Status.Done → Wrote (W.written out.old) (text_of_events history.now) (W.written out.new) }
+    ensures done { result ≡ Status.Done →
+        Wrote (W.written out.old) (text_of_events history.now) (W.written out.new) }
     ensures front { WroteFront (W.written out.old) (text_of_events history.now) (W.written out.new) }
     ensures cause { result ≡ Status.SinkFault → Rose (W.faults out.old) (W.faults out.new) }
+    ensures some { result ≡ Status.SinkFault → 0 < length history.now }
 {
     let Ok(text) = text_of(alloc, history) else {
         return Status::NoMemory;
@@ -184,7 +224,7 @@ fn print<W: Sink>(alloc: Global, out: &mut W, history: &[Event]) -> Status
 
 // The status of a run whose lane ended, and whose history was printed so.
 fn end(printed: Status, starved: bool) -> Status
-    ensures { result ≡ ends printed starved }
+    ensures { result ≡ last_status printed starved }
 {
     if starved && printed == Status::Done {
         Status::NoMemory

@@ -1,13 +1,16 @@
 //! The script language. `docs/formats.md` of the repository has it.
 
-ghost use Rattle.std.specs.Prelude.{◌≡◌, ◌≢◌, true, ◌<◌, ◌≤◌, ◌⊎◌, ◌↔◌, [], ◌∷◌, ◌++◌, List, ℕ, length, take, slice_index, codes, All, IsTrue, IfOk, IfSome, IfNone, IsErrOf};
+ghost use Rattle.std.specs.Prelude.{◌≡◌, ◌≢◌, true, ◌≤◌, ◌⊎◌, ◌↔◌, [], ◌∷◌, ◌++◌, List, ℕ, length, codes, IsTrue, IfOk, IfSome, IfNone, IsErrOf};
 ghost use Rattle.pkg_names.specs.NameAndVariant.{NameAndVariant};
 ghost use Rattle.pkg_names.specs.declared.root.Root.{Root as RootOf};
 ghost use Rattle.pkg_tool.specs.declared.script.Request.{Request as RequestOf};
+ghost use Rattle.pkg_tool.specs.declared.script.TextFault.{TextFault as TextFaultOf};
 ghost use Rattle.pkg_tool.specs.declared.script.LineFault.TheVariants as lines;
 ghost use Rattle.pkg_tool.specs.declared.script.ScriptFault.TheVariants as scripts;
-ghost use Rattle.pkg_tool.specs.Script.{lines_of, byte_in_script_name, script_limit, starts_with_hash, IsScriptName, IsPinnedUrl, Asks, IsSkipped, IsBad, IsScript, IsFirstBad};
+ghost use Rattle.pkg_names.specs.Text.{HasNo, question_mark, space};
+ghost use Rattle.pkg_tool.specs.Script.{byte_in_script_name, starts_with_hash, IsScriptName, IsPinnedUrl, Asks, IsSkipped, IsBad, IsScript, IsFirstBad};
 
+use pkg_names::text::{cut_at, next_line};
 use pkg_names::{Bytes, PackagePath, PathFault, Root, read_path, read_root};
 use std::alloc::{AllocError, AllocFailed, Global};
 
@@ -15,7 +18,7 @@ use std::alloc::{AllocError, AllocFailed, Global};
 pub const SCRIPT_LIMIT: usize = 1_048_576;
 
 /// The most requests of a script.
-const REQUEST_LIMIT: usize = 4096;
+pub const REQUEST_LIMIT: usize = 4096;
 
 /// A package that a script asks for, under a name of the script's own.
 #[derive(Debug, Drop)]
@@ -40,11 +43,22 @@ impl From<AllocError> for LineFault {
     }
 }
 
-/// Why a text is no script.
+/// What is wrong with a text that is no script.
+#[derive(Clone, Copy, Debug, PartialEq, Eq)]
+pub enum TextFault {
+    /// It has more than [`SCRIPT_LIMIT`] bytes.
+    TooLong,
+    /// Its first bad line is a request, the first one past [`REQUEST_LIMIT`].
+    TooMany,
+    /// Its first bad line is no request, and nothing that is skipped.
+    NoRequest,
+}
+
+/// Why a text is not read to requests.
 #[derive(Clone, Copy, Debug, PartialEq, Eq)]
 pub(crate) enum ScriptFault {
     /// The first bad line, counted from 1.
-    Line { number: u32 },
+    Line { number: u32, fault: TextFault },
     NoMemory,
 }
 
@@ -58,9 +72,10 @@ impl<T: Drop> From<AllocFailed<T>> for ScriptFault {
 
 /// The requests of a script, in line order.
 pub(crate) fn read_script(alloc: Global, text: &[u8]) -> Result<Vec<Request>, ScriptFault>
-    requires { length text.now ≤ script_limit }
+    requires { length text.now ≤ SCRIPT_LIMIT }
     ensures found { IfOk result (λ requests. IsScript text.now requests.items) }
-    ensures line { (number : ℕ) → IsErrOf result (ScriptFault.Line number) → IsFirstBad text.now number }
+    ensures line { (number : ℕ) (fault : TextFaultOf) → IsErrOf result (ScriptFault.Line number fault) →
+        IsFirstBad fault text.now number }
 {
     let mut requests = Vec::new(alloc);
     let mut rest = text;
@@ -72,28 +87,24 @@ pub(crate) fn read_script(alloc: Global, text: &[u8]) -> Result<Vec<Request>, Sc
             Ok(None) => {}
             Ok(Some(request)) => {
                 if requests.len() >= REQUEST_LIMIT {
-                    return Err(ScriptFault::Line { number });
+                    return Err(ScriptFault::Line {
+                        number,
+                        fault: TextFault::TooMany,
+                    });
                 }
                 requests.push(request)?;
             }
-            Err(LineFault::Bad) => return Err(ScriptFault::Line { number }),
+            Err(LineFault::Bad) => {
+                return Err(ScriptFault::Line {
+                    number,
+                    fault: TextFault::NoRequest,
+                });
+            }
             Err(LineFault::NoMemory) => return Err(ScriptFault::NoMemory),
         }
         rest = after;
     }
     Ok(requests)
-}
-
-// The first line, and what follows its line feed.
-fn next_line(text: &[u8]) -> (&[u8], &[u8])
-    requires { 0 < length text.now }
-    ensures lines { lines_of text.now ≡ result.0.now ∷ lines_of result.1.now }
-    ensures shorter { length result.1.now < length text.now }
-{
-    match cut(text, b'\n') {
-        Some((line, after)) => (line, after),
-        None => (text, b""),
-    }
 }
 
 // What a line asks for, or nothing.
@@ -142,11 +153,11 @@ fn request_of(alloc: Global, line: &[u8]) -> Result<Request, LineFault>
 
 // The name and the URL of a line that asks.
 fn words_of(line: &[u8]) -> Option<(&[u8], &[u8])>
-    ensures found { IfSome result (λ words. line.now ≡ codes "1 resolve " ++ (words.0.now ++ 32 ∷ words.1.now)) }
-    ensures first { IfSome result (λ words. All (λ c. c ≢ 32) words.0.now) }
-    ensures none { IfNone result ((name url : List ℕ) → line.now ≢ codes "1 resolve " ++ (name ++ 32 ∷ url)) }
+    ensures found { IfSome result (λ words. line.now ≡ codes "1 resolve " ++ (words.0.now ++ space ∷ words.1.now)) }
+    ensures first { IfSome result (λ words. HasNo space words.0.now) }
+    ensures none { IfNone result ((name url : List ℕ) → line.now ≢ codes "1 resolve " ++ (name ++ space ∷ url)) }
 {
-    let (name, url) = cut(behind(line, b"1 resolve ")?, b' ')?;
+    let (name, url) = cut_at(behind(line, b"1 resolve ")?, b' ')?;
     Some((name, url))
 }
 
@@ -182,12 +193,13 @@ fn pinned_of(alloc: Global, url: &[u8]) -> Result<(PackagePath, Root), LineFault
 
 // The written path and the digits of a pinned package's URL.
 fn parts_of(url: &[u8]) -> Option<(&[u8], &[u8])>
-    ensures found { IfSome result (λ parts. url.now ≡ codes "fuchsia-pkg://fuchsia.com/" ++ (parts.0.now ++ 63 ∷ (codes "hash=" ++ parts.1.now))) }
-    ensures first { IfSome result (λ parts. All (λ c. c ≢ 63) parts.0.now) }
-    ensures none { IfNone result ((written digits : List ℕ) → All (λ c. c ≢ 63) written →
-        url.now ≢ codes "fuchsia-pkg://fuchsia.com/" ++ (written ++ 63 ∷ (codes "hash=" ++ digits))) }
+    ensures found { IfSome result (λ parts. url.now
+        ≡ codes "fuchsia-pkg://fuchsia.com/" ++ (parts.0.now ++ question_mark ∷ (codes "hash=" ++ parts.1.now))) }
+    ensures first { IfSome result (λ parts. HasNo question_mark parts.0.now) }
+    ensures none { IfNone result ((written digits : List ℕ) → HasNo question_mark written →
+        url.now ≢ codes "fuchsia-pkg://fuchsia.com/" ++ (written ++ question_mark ∷ (codes "hash=" ++ digits))) }
 {
-    let (written, query) = cut(behind(url, b"fuchsia-pkg://fuchsia.com/")?, b'?')?;
+    let (written, query) = cut_at(behind(url, b"fuchsia-pkg://fuchsia.com/")?, b'?')?;
     let digits = behind(query, b"hash=")?;
     Some((written, digits))
 }
@@ -198,23 +210,4 @@ fn behind<'a>(text: &'a [u8], front: &[u8]) -> Option<&'a [u8]>
     ensures none { IfNone result ((rest : List ℕ) → text.now ≢ front.now ++ rest) }
 {
     text.strip_prefix(front)
-}
-
-// What stands before the first place of a byte, and what follows it.
-fn cut(text: &[u8], byte: u8) -> Option<(&[u8], &[u8])>
-    ensures found { IfSome result (λ parts. text.now ≡ parts.0.now ++ byte ∷ parts.1.now) }
-    ensures first { IfSome result (λ parts. All (λ c. c ≢ byte) parts.0.now) }
-    ensures none { IfNone result (All (λ c. c ≢ byte) text.now) }
-{
-    let at = place_of(text, byte)?;
-    Some((&text[..at], &text[at + 1..]))
-}
-
-// Where a byte stands first.
-fn place_of(text: &[u8], byte: u8) -> Option<usize>
-    ensures found { IfSome result (λ at. (at < length text.now) × (slice_index text.now at ≡ byte)) }
-    ensures first { IfSome result (λ at. All (λ c. c ≢ byte) (take at text.now)) }
-    ensures none { IfNone result (All (λ c. c ≢ byte) text.now) }
-{
-    text.iter().position(|c| *c == byte)
 }

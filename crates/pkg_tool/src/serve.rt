@@ -3,11 +3,11 @@
 ghost use Rattle.std.specs.Prelude.{◌≡◌, ◌≤◌, ℕ, List, length, Option, Some, true, IfSome, IfOk, OnOk, OnErr};
 ghost use Rattle.pkg_tool.specs.declared.script.Request.{Request as RequestOf};
 ghost use Rattle.pkg_tool.specs.declared.store.Held.TheVariants.{Nothing};
-ghost use Rattle.pkg_tool.specs.Files.{File, file_at};
-ghost use Rattle.pkg_tool.specs.Holding.{ticket_of, root_of, IsTicket, IsClaim, IsRoomless, is_settled, place_of};
-ghost use Rattle.pkg_tool.specs.Fetching.{Fetches};
-ghost use Rattle.pkg_tool.specs.Serving.{Serves, ServesFrontOf};
-ghost use Rattle.pkg_tool.specs.Serving.Place.{Rest, Cut};
+ghost use Rattle.pkg_tool.specs.declared.repo.File.{File};
+ghost use Rattle.pkg_tool.specs.Files.{file_at};
+ghost use Rattle.pkg_tool.specs.Holding.{ticket_of, root_of, IsTicket, IsClaim, IsRoomless, is_decided, point_of};
+ghost use Rattle.pkg_tool.specs.Steps.{FetchesOn, Serves, ServesFrontOf};
+ghost use Rattle.pkg_tool.specs.Serving.Point.{Rest, Cut};
 
 use crate::repo::{FILE_LIMIT, FileReply, FirstRepo};
 use crate::script::Request;
@@ -27,10 +27,10 @@ pub(crate) fn serve<R: FirstRepo>(
     ensures held { store.new.held ≡ Nothing }
     ensures ok { OnOk result (Serves request.now Rest Rest store.old.history store.new.history) }
     ensures err { OnErr result (ServesFrontOf request.now store.old.history store.new.history) }
-    ensures fetches { Fetches (R.files repo.old) (R.faults repo.old) (R.faults repo.new) store.old.history store.new.history }
+    ensures fetches { FetchesOn (R.files repo.old) (R.faults repo.old) (R.faults repo.new) store.old.history store.new.history }
     ensures files { R.files repo.new ≡ R.files repo.old }
 {
-    store.begin(alloc, &request.path, request.root)?;
+    store.begin(&request.path, request.root)?;
     arrive(alloc, store, repo)
 }
 
@@ -38,13 +38,13 @@ pub(crate) fn serve<R: FirstRepo>(
 fn arrive<R: FirstRepo>(alloc: Global, store: &mut Store, repo: &mut R) -> Result<(), AllocError>
     requires { IsTicket store.old.held }
     ensures held { store.new.held ≡ Nothing }
-    ensures ok { OnOk result ((request : RequestOf) → Serves request (place_of store.old.held) Rest store.old.history store.new.history) }
-    ensures err { OnErr result ((request : RequestOf) → Serves request (place_of store.old.held) Cut store.old.history store.new.history) }
-    ensures fetches { Fetches (R.files repo.old) (R.faults repo.old) (R.faults repo.new) store.old.history store.new.history }
+    ensures ok { OnOk result ((request : RequestOf) → Serves request (point_of store.old.held) Rest store.old.history store.new.history) }
+    ensures err { OnErr result ((request : RequestOf) → Serves request (point_of store.old.held) Cut store.old.history store.new.history) }
+    ensures fetches { FetchesOn (R.files repo.old) (R.faults repo.old) (R.faults repo.new) store.old.history store.new.history }
     ensures files { R.files repo.new ≡ R.files repo.old }
 {
     loop {
-        let reply = match store.want(alloc) {
+        let reply = match store.want() {
             Ok(reply) => reply,
             Err(e) => {
                 store.give_up();
@@ -58,7 +58,7 @@ fn arrive<R: FirstRepo>(alloc: Global, store: &mut Store, repo: &mut R) -> Resul
     }
 }
 
-// Fetches the claimed blob. The claim ends; without memory for it, so does the ticket.
+// FetchesOn the claimed blob. The claim ends; without memory for it, so does the ticket.
 fn fetch<R: FirstRepo>(
     alloc: Global,
     store: &mut Store,
@@ -68,15 +68,15 @@ fn fetch<R: FirstRepo>(
     requires claim { IsRoomless store.old.held }
     requires root { root.now ≡ root_of store.old.held }
     ensures ticket { OnOk result (IsTicket store.new.held) }
-    ensures settled { OnOk result (is_settled store.new ≡ true) }
-    ensures ok { OnOk result ((request : RequestOf) → Serves request (place_of store.old.held) (place_of store.new.held) store.old.history store.new.history) }
+    ensures decided { OnOk result (is_decided store.new ≡ true) }
+    ensures ok { OnOk result ((request : RequestOf) → Serves request (point_of store.old.held) (point_of store.new.held) store.old.history store.new.history) }
     ensures held { OnErr result (store.new.held ≡ Nothing) }
-    ensures err { OnErr result ((request : RequestOf) → Serves request (place_of store.old.held) Cut store.old.history store.new.history) }
-    ensures fetches { Fetches (R.files repo.old) (R.faults repo.old) (R.faults repo.new) store.old.history store.new.history }
+    ensures err { OnErr result ((request : RequestOf) → Serves request (point_of store.old.held) Cut store.old.history store.new.history) }
+    ensures fetches { FetchesOn (R.files repo.old) (R.faults repo.old) (R.faults repo.new) store.old.history store.new.history }
     ensures files { R.files repo.new ≡ R.files repo.old }
 {
     match repo.file(alloc, root) {
-        FileReply::Found(bytes) => keep(alloc, store, bytes),
+        FileReply::Found(bytes) => keep(store, bytes),
         FileReply::Absent => {
             store.miss(Miss::Absent);
             Ok(())
@@ -93,22 +93,22 @@ fn fetch<R: FirstRepo>(
 }
 
 // Makes room for the claimed blob and lands its bytes.
-fn keep(alloc: Global, store: &mut Store, bytes: Bytes) -> Result<(), AllocError>
+fn keep(store: &mut Store, bytes: Bytes) -> Result<(), AllocError>
     requires claim { IsRoomless store.old.held }
     requires short { length bytes ≤ FILE_LIMIT }
     ensures ticket { OnOk result (IsTicket store.new.held) }
-    ensures settled { OnOk result (is_settled store.new ≡ true) }
-    ensures ok { OnOk result ((request : RequestOf) → Serves request (place_of store.old.held) (place_of store.new.held) store.old.history store.new.history) }
+    ensures decided { OnOk result (is_decided store.new ≡ true) }
+    ensures ok { OnOk result ((request : RequestOf) → Serves request (point_of store.old.held) (point_of store.new.held) store.old.history store.new.history) }
     ensures held { OnErr result (store.new.held ≡ Nothing) }
-    ensures err { OnErr result ((request : RequestOf) → Serves request (place_of store.old.held) Cut store.old.history store.new.history) }
+    ensures err { OnErr result ((request : RequestOf) → Serves request (point_of store.old.held) Cut store.old.history store.new.history) }
     ensures fetches { (files : Option (List File)) (before after : ℕ) → before ≤ after → IfSome files (λ all. file_at all (root_of store.old.held) ≡ Some bytes)
-        → Fetches files before after store.old.history store.new.history }
+        → FetchesOn files before after store.old.history store.new.history }
 {
     if let Err(e) = store.room(bytes.as_slice().len() as u64) {
         leave(store);
         return Err(e);
     }
-    if let Err(e) = store.land(alloc, bytes) {
+    if let Err(e) = store.land(bytes) {
         leave(store);
         return Err(e);
     }
@@ -119,8 +119,8 @@ fn keep(alloc: Global, store: &mut Store, bytes: Bytes) -> Result<(), AllocError
 fn leave(store: &mut Store)
     requires { IsClaim store.old.held }
     ensures held { store.new.held ≡ Nothing }
-    ensures serves { (request : RequestOf) → Serves request (place_of store.old.held) Cut store.old.history store.new.history }
-    ensures fetches { (files : Option (List File)) (before after : ℕ) → before ≤ after → Fetches files before after store.old.history store.new.history }
+    ensures serves { (request : RequestOf) → Serves request (point_of store.old.held) Cut store.old.history store.new.history }
+    ensures fetches { (files : Option (List File)) (before after : ℕ) → before ≤ after → FetchesOn files before after store.old.history store.new.history }
 {
     store.miss(Miss::Memory);
     store.give_up();

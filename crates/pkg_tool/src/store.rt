@@ -9,7 +9,7 @@ ghost use Rattle.store_model.specs.declared.events.BeginEnd.TheVariants as begin
 ghost use Rattle.store_model.specs.State.{bare};
 ghost use Rattle.store_model.specs.History.{IsLegal};
 ghost use Rattle.pkg_tool.specs.Fetching.{Lands, landed_seen};
-ghost use Rattle.pkg_tool.specs.Holding.{Makes, held_after_want, mark_of as marked_by, ticket_of, root_of as root_of_held, len_of, IsTicket, IsClaim, IsRoomless, IfFetch, is_settled};
+ghost use Rattle.pkg_tool.specs.Holding.{Makes, held_after_want, mark_of as marked_by, ticket_of, root_of as root_of_held, len_of, IsTicket, IsClaim, IsRoomless, IfFetch, is_decided};
 ghost use Rattle.pkg_tool.specs.Mirrors.{blob_at, looks, missing_of};
 
 use crate::history::History;
@@ -21,13 +21,10 @@ use pkg_merkle::{BYTES_LIMIT, root_of};
 use pkg_names::{Bytes, PackagePath, Root};
 use std::alloc::{AllocError, Global};
 use std::marker::Model;
-use store_model::{Act, BeginEnd, Cause, Event, Looked, LookedAt, Miss, WantEnd};
+use store_model::{Act, BeginEnd, Cause, Event, Looked, LookedAt, META_LIMIT, Miss, WantEnd};
 
 /// The lane that asks; the boot is lane 0's.
 const LANE: u32 = 1;
-
-/// The longest meta blob that an event carries, in bytes.
-const META_LIMIT: usize = 1_048_576;
 
 /// What the lane holds.
 #[derive(Clone, Copy, Debug, PartialEq, Eq)]
@@ -50,6 +47,7 @@ pub(crate) enum Held {
 /// The store. Contracts see its history, and what the lane holds.
 #[derive(Debug, Drop)]
 pub(crate) struct Store {
+    alloc: Global,
     history: History,
     blobs: Vec<LookedAt>,
     opened: Vec<Root>,
@@ -84,6 +82,7 @@ impl Store {
             broke: false,
         });
         Ok(Store {
+            alloc,
             history,
             blobs: Vec::new(alloc),
             opened: Vec::new(alloc),
@@ -92,19 +91,14 @@ impl Store {
     }
 
     /// Asks for a package by its root. The number of the event is the ticket.
-    pub(crate) fn begin(
-        &mut self,
-        alloc: Global,
-        path: &PackagePath,
-        root: Root,
-    ) -> Result<(), AllocError>
+    pub(crate) fn begin(&mut self, path: &PackagePath, root: Root) -> Result<(), AllocError>
         requires { self.old.held ≡ Held.Nothing }
         ensures ok { OnOk result ((seen : List LookedAtOf) × Makes self.old
             (acts.Begin path.now (Pinned root) (begins.Ticket root) seen) (Held.Ticket (length self.old.history + 1) root None) self.new) }
         ensures err { OnErr result (self.new ≡ self.old) }
     {
-        let path = path.try_copy(alloc)?;
-        let seen = look(alloc, &self.blobs, &self.opened, &root)?;
+        let path = path.try_copy(self.alloc)?;
+        let seen = look(self.alloc, &self.blobs, &self.opened, &root)?;
         self.history.reserve(2)?;
         let ticket = self.history.next_number();
         self.history.note(by_lane(Act::Begin {
@@ -122,11 +116,11 @@ impl Store {
     }
 
     /// Asks what is missing of the package that arrives: its blob, or nothing.
-    pub(crate) fn want(&mut self, alloc: Global) -> Result<WantEnd, AllocError>
+    pub(crate) fn want(&mut self) -> Result<WantEnd, AllocError>
         requires { IsTicket self.old.held }
         ensures ok { IfOk result (λ reply. Makes self.old (acts.Want (ticket_of self.old.held) reply)
             (held_after_want (ticket_of self.old.held) reply) self.new) }
-        ensures fetch { IfOk result (λ reply. IfFetch reply (λ root. (root ≡ root_of_held self.old.held) × (is_settled self.old ≡ false))) }
+        ensures fetch { IfOk result (λ reply. IfFetch reply (λ root. (root ≡ root_of_held self.old.held) × (is_decided self.old ≡ false))) }
         ensures err { OnErr result (self.new ≡ self.old) }
     {
         let Held::Ticket { ticket, root, mark } = self.held else {
@@ -138,7 +132,7 @@ impl Store {
             self.held = Held::Nothing;
             return Ok(reply);
         }
-        match missing(alloc, &self.blobs, &root)? {
+        match missing(self.alloc, &self.blobs, &root)? {
             None => {
                 self.opened.push(root)?;
                 let reply = WantEnd::Opened;
@@ -185,17 +179,13 @@ impl Store {
     }
 
     /// Lands the bytes of the claimed blob, for which room of their length was made.
-    pub(crate) fn land(
-        &mut self,
-        alloc: Global,
-        bytes: Bytes,
-    ) -> Result<Option<FetchEnd>, AllocError>
+    pub(crate) fn land(&mut self, bytes: Bytes) -> Result<Option<FetchEnd>, AllocError>
         requires room { len_of self.old.held ≡ Some (length bytes) }
         requires short { length bytes ≤ BYTES_LIMIT }
         ensures ok { IfOk result (λ end. (seen : List LookedAtOf) × Lands (root_of_held self.old.held) bytes end seen
             × Makes self.old (acts.Land (root_of_held self.old.held) (length bytes) end seen)
             (Held.Ticket (ticket_of self.old.held) (root_of_held self.old.held) end) self.new) }
-        ensures settled { OnOk result (is_settled self.new ≡ true) }
+        ensures decided { OnOk result (is_decided self.new ≡ true) }
         ensures err { OnErr result (self.new ≡ self.old) }
     {
         let Held::Claim { ticket, root, .. } = self.held else {
@@ -209,12 +199,12 @@ impl Store {
                 root,
                 len,
                 reply: mark,
-                seen: Looked::make(Vec::new(alloc)),
+                seen: Looked::make(Vec::new(self.alloc)),
             }));
             self.held = Held::Ticket { ticket, root, mark };
             return Ok(mark);
         }
-        let seen = Looked::make(landed(alloc, root, &bytes)?);
+        let seen = Looked::make(landed(self.alloc, root, &bytes)?);
         self.blobs.push(LookedAt { root, bytes })?;
         self.history.note(by_lane(Act::Land {
             root,

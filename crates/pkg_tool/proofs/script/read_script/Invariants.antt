@@ -1,12 +1,12 @@
 use Rattle.std.proofs.Common.{length, ◌≤◌, ◌+◌, vec_len}
-use Rattle.pkg_tool.specs.Script.{request_limit}
+use Rattle.pkg_tool.specs.declared.script.TheConstants.{REQUEST_LIMIT}
 use Rattle.pkg_tool.proofs.Lines.{StandsAt}
 use Rattle.pkg_tool.proofs.script.read_script.Given as goal
 
 abbrev pub invariant-loop-rest : goal.invariant-loop-rest
 invariant-loop-rest l = record {
   stands : StandsAt l.text l.rest l.number l.requests.items;
-  few : vec_len l.requests ≤ request_limit;
+  few : vec_len l.requests ≤ REQUEST_LIMIT;
   numbered : l.number + length l.rest ≤ length l.text;
 }
 

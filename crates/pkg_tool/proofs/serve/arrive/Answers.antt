@@ -6,9 +6,10 @@ use Rattle.store_model.specs.declared.events.WantEnd.TheVariants.{Fetch, Opened,
 use Rattle.pkg_tool.specs.declared.script.Request.{Request}
 use Rattle.pkg_tool.specs.declared.store.Held.{Held}
 use Rattle.pkg_tool.specs.declared.store.Held.TheVariants.{Nothing}
-use Rattle.pkg_tool.specs.Holding.{Session, Makes, ticket_of, held_after_want, place_of}
-use Rattle.pkg_tool.specs.Serving.{Serves, after_want}
-use Rattle.pkg_tool.specs.Serving.Place.{Rest, Granted, Cut}
+use Rattle.pkg_tool.specs.Holding.{Session, Makes, ticket_of, held_after_want, point_of}
+use Rattle.pkg_tool.specs.Serving.{after_want}
+use Rattle.pkg_tool.specs.Steps.{Serves}
+use Rattle.pkg_tool.specs.Serving.Point.{Rest, Granted, Cut}
 use Rattle.pkg_tool.proofs.Going.{serves, serves_then, busy_ticket, goes_given, want_serves, fetches_then, plain_fetches, any_err}
 use Rattle.pkg_tool.proofs.serve.arrive.Goals as goal
 
@@ -21,8 +22,8 @@ pub returns-in-Err-clause-err : goal.returns-in-Err-clause-err
 returns-in-Err-clause-err g c = λ request.
     let now = c.loop-reply.store in
     let made = subst (λ (s : Session). Makes s (GaveUp (ticket_of s.held)) Nothing c.give_up.new.self) c.in-Err.ensures.err c.give_up.ensures.made in
-    serves_then request (place_of c.args.store.now.held) (place_of now.held) Cut _ _ _ (busy_ticket now.held c.loop-reply.invariant.ticket) (c.loop-reply.invariant.serves request)
-    (serves request (place_of now.held) Cut now.history c.give_up.new.self.history (GaveUp (ticket_of now.held)) made.0 (goes_given request now.held (length now.history + 1) c.loop-reply.invariant.ticket))
+    serves_then request (point_of c.args.store.now.held) (point_of now.held) Cut _ _ _ (busy_ticket now.held c.loop-reply.invariant.ticket) (c.loop-reply.invariant.serves request)
+    (serves request (point_of now.held) Cut now.history c.give_up.new.self.history (GaveUp (ticket_of now.held)) made.0 (goes_given request now.held (length now.history + 1) c.loop-reply.invariant.ticket))
 
 pub returns-in-Err-clause-fetches : goal.returns-in-Err-clause-fetches
 returns-in-Err-clause-fetches g c =
@@ -39,7 +40,7 @@ returns-in_default g c =
     record {
       held = made.1 ∙ end.0;
       ok = λ request.
-          serves_then request (place_of c.args.store.now.held) (place_of now.held) Rest _ _ _ (busy_ticket now.held c.loop-reply.invariant.ticket) (c.loop-reply.invariant.serves request)
+          serves_then request (point_of c.args.store.now.held) (point_of now.held) Rest _ _ _ (busy_ticket now.held c.loop-reply.invariant.ticket) (c.loop-reply.invariant.serves request)
           (rw (sym end.1) (want_serves request now c.want.new.self c.in-Ok.reply c.loop-reply.invariant.ticket made));
       err = tt;
       fetches = fetches_then (g.R.FirstRepo.files c.args.repo.now) _ _ _ _ _ _ c.loop-reply.invariant.fetches
@@ -54,10 +55,10 @@ loop-reply-preserved g c =
     record {
       ticket = c.in_ok-fetch.ensures.ticket;
       serves = λ request.
-          serves_then request (place_of c.args.store.now.held) (Granted (ticket_of now.held) c.in-Fetch.root) (place_of c.fetch.new.store.held) _ _ _ tt
-          (serves_then request (place_of c.args.store.now.held) (place_of now.held) (Granted (ticket_of now.held) c.in-Fetch.root) _ _ _ (busy_ticket now.held c.loop-reply.invariant.ticket) (c.loop-reply.invariant.serves request)
+          serves_then request (point_of c.args.store.now.held) (Granted (ticket_of now.held) c.in-Fetch.root) (point_of c.fetch.new.store.held) _ _ _ tt
+          (serves_then request (point_of c.args.store.now.held) (point_of now.held) (Granted (ticket_of now.held) c.in-Fetch.root) _ _ _ (busy_ticket now.held c.loop-reply.invariant.ticket) (c.loop-reply.invariant.serves request)
           (want_serves request now c.want.new.self (Fetch c.in-Fetch.root) c.loop-reply.invariant.ticket made))
-          (subst (λ (h : Held). Serves request (place_of h) (place_of c.fetch.new.store.held) c.want.new.self.history c.fetch.new.store.history) made.1 (c.in_ok-fetch.ensures.ok request));
+          (subst (λ (h : Held). Serves request (point_of h) (point_of c.fetch.new.store.held) c.want.new.self.history c.fetch.new.store.history) made.1 (c.in_ok-fetch.ensures.ok request));
       fetches = fetches_then (g.R.FirstRepo.files c.args.repo.now) _ _ _ _ _ _ c.loop-reply.invariant.fetches
           (fetches_then (g.R.FirstRepo.files c.args.repo.now) _ _ _ _ _ _
           (plain_fetches (g.R.FirstRepo.files c.args.repo.now) (g.R.FirstRepo.faults c.loop-reply.repo) now.history c.want.new.self.history (Want (ticket_of now.held) (Fetch c.in-Fetch.root)) made.0 refl (λ all. tt))
@@ -69,11 +70,11 @@ pub returns-in_err-fetch-clause-err : goal.returns-in_err-fetch-clause-err
 returns-in_err-fetch-clause-err g c =
     let now = c.loop-reply.store in
     let made = subst (λ (r : WantEnd). Makes now (Want (ticket_of now.held) r) (held_after_want (ticket_of now.held) r) c.want.new.self) c.in-Fetch.is c.in-Ok.ensures.ok in
-    any_err c.from_residual.result ((request : Request) → Serves request (place_of c.args.store.now.held) Cut c.args.store.now.history c.fetch.new.store.history) (λ request.
-    serves_then request (place_of c.args.store.now.held) (Granted (ticket_of now.held) c.in-Fetch.root) Cut _ _ _ tt
-    (serves_then request (place_of c.args.store.now.held) (place_of now.held) (Granted (ticket_of now.held) c.in-Fetch.root) _ _ _ (busy_ticket now.held c.loop-reply.invariant.ticket) (c.loop-reply.invariant.serves request)
+    any_err c.from_residual.result ((request : Request) → Serves request (point_of c.args.store.now.held) Cut c.args.store.now.history c.fetch.new.store.history) (λ request.
+    serves_then request (point_of c.args.store.now.held) (Granted (ticket_of now.held) c.in-Fetch.root) Cut _ _ _ tt
+    (serves_then request (point_of c.args.store.now.held) (point_of now.held) (Granted (ticket_of now.held) c.in-Fetch.root) _ _ _ (busy_ticket now.held c.loop-reply.invariant.ticket) (c.loop-reply.invariant.serves request)
     (want_serves request now c.want.new.self (Fetch c.in-Fetch.root) c.loop-reply.invariant.ticket made))
-    (subst (λ (h : Held). Serves request (place_of h) Cut c.want.new.self.history c.fetch.new.store.history) made.1 (c.in_err-fetch.ensures.err request)))
+    (subst (λ (h : Held). Serves request (point_of h) Cut c.want.new.self.history c.fetch.new.store.history) made.1 (c.in_err-fetch.ensures.err request)))
 
 pub returns-in_err-fetch-clause-fetches : goal.returns-in_err-fetch-clause-fetches
 returns-in_err-fetch-clause-fetches g c =

@@ -8,11 +8,11 @@ use Rattle.pkg_tool.specs.Fetching.{landed_seen}
 use Rattle.pkg_tool.specs.Holding.{Session, len_of, by_lane}
 use Rattle.fetch_queue.specs.declared.FetchEnd.TheVariants.{Wrong}
 use Rattle.store_model.specs.declared.events.Act.TheVariants.{Land}
-use Rattle.package_book.specs.Books.{root_eq}
+use Rattle.pkg_names.specs.Root.{root_eq}
 use Rattle.pkg_merkle.specs.Merkle.{merkle_root}
-use Rattle.store_model.proofs.Roots.{root_eq-true}
+use Rattle.pkg_names.proofs.Roots.{root_eq-true}
 use Rattle.pkg_tool.proofs.Parts.{noted}
-use Rattle.pkg_tool.proofs.Settled.{settled}
+use Rattle.pkg_tool.proofs.Decided.{decided}
 use Rattle.pkg_tool.proofs.StoreSteps.{lands_wrong}
 use Rattle.pkg_tool.proofs.StoreGrowth.{lands}
 use Rattle.pkg_tool.proofs.store.Store.land.Goals as goal
@@ -45,6 +45,6 @@ invariant_of-self-2 c =
     (λ later. lands c.self.inside.blobs.items c.self.inside.opened.items c.in-Claim.ticket c.in-Claim.root c.args.bytes _ _ later is_root)
     (λ held. omega (arith, c.note-2.ensures.spare, held)))
 
-pub returns-clause-settled : goal.returns-clause-settled
-returns-clause-settled c =
-    settled c.self.inside.history.events c.note-2.new.self.events c.in-Claim.ticket c.in-Claim.root _ _ (c.note-2.ensures.events ∙ ap (λ (e : Event). c.self.inside.history.events ++ e ∷ []) c.by_lane-2.ensures)
+pub returns-clause-decided : goal.returns-clause-decided
+returns-clause-decided c =
+    decided c.self.inside.history.events c.note-2.new.self.events c.in-Claim.ticket c.in-Claim.root _ _ (c.note-2.ensures.events ∙ ap (λ (e : Event). c.self.inside.history.events ++ e ∷ []) c.by_lane-2.ensures)

@@ -7,10 +7,10 @@ use Rattle.pkg_tool.specs.declared.store.Held.{Held}
 use Rattle.pkg_tool.specs.declared.store.Held.TheVariants.{Ticket}
 use Rattle.store_model.specs.declared.events.Act.TheVariants.{Want}
 use Rattle.store_model.specs.declared.events.WantEnd.TheVariants.{Fetch}
-use Rattle.pkg_tool.specs.Holding.{Session, by_lane, root_of, is_settled}
+use Rattle.pkg_tool.specs.Holding.{Session, by_lane, root_of, is_decided}
 use Rattle.pkg_tool.specs.Mirrors.{IsStore, missing_of}
 use Rattle.pkg_tool.proofs.Parts.{noted}
-use Rattle.pkg_tool.proofs.Settled.{unsettled}
+use Rattle.pkg_tool.proofs.Decided.{undecided}
 use Rattle.pkg_tool.proofs.Stock.{missing_some, missing_none}
 use Rattle.pkg_tool.proofs.StoreSteps.{fails, grants}
 use Rattle.pkg_tool.proofs.StoreGrowth.{opens}
@@ -60,6 +60,6 @@ returns-in_ok-reserve-in-Some-2-clause-fetch c =
     let store = subst (λ (h : Held). IsStore c.self.inside.history.events c.self.inside.history.spare c.self.inside.blobs.items c.self.inside.opened.items h) held c.self.invariant in
     let seen = ap (λ (s : Session). s.held) c.self.view_is in (
       sym fresh.1 ∙ ap root_of (sym held ∙ seen),
-      ap is_settled (sym c.self.view_is ∙ ap (λ (h : Held). record { history = c.self.inside.history.events; held = h }) held)
-          ∙ unsettled c.self.inside.history.events c.self.inside.history.spare c.in-Ticket.ticket c.in-Ticket.root c.self.inside.blobs.items c.self.inside.opened.items store fresh.0,
+      ap is_decided (sym c.self.view_is ∙ ap (λ (h : Held). record { history = c.self.inside.history.events; held = h }) held)
+          ∙ undecided c.self.inside.history.events c.self.inside.history.spare c.in-Ticket.ticket c.in-Ticket.root c.self.inside.blobs.items c.self.inside.opened.items store fresh.0,
     )
