@@ -139,7 +139,8 @@ without_claim claims root = filter (λ (claim : Claim). not (root_eq claim.root 
 
 -- the claims, with room of this length for the root's blob
 abbrev pub with_room : List Claim → Root → ℕ → List Claim
-with_room claims root len = map (λ (claim : Claim). if root_eq claim.root root then record claim { len = Some len } else claim) claims
+with_room claims root len =
+    map (λ (claim : Claim). if root_eq claim.root root then record claim { len = Some len } else claim) claims
 
 -- the arrival with a ticket
 abbrev pub arrival_of : List Arrival → ℕ → Option Arrival
@@ -156,10 +157,13 @@ has_root roots root = list_any (λ other. root_eq other root) roots
 
 -- the packages that the state protects
 abbrev pub protected_in : State → List Root
-protected_in s = protected s.base s.cached s.active s.retained (map (λ (a : Arrival). a.root) s.arriving) (map (λ (d : Directory). d.root) s.dirs)
+protected_in s =
+    protected s.base s.cached s.active s.retained (map (λ (a : Arrival). a.root) s.arriving)
+    (map (λ (d : Directory). d.root) s.dirs)
 
 -- the state after a fetch ended without its blob: the claim goes, and each package that names the blob
 -- and has no mark yet is marked
-abbrev pub marked : State → Root → FetchEnd → List Arrival
-marked s root end =
-    map (λ (a : Arrival). if not (is_some a.mark) && has_root (names a.root s.books) root then record a { mark = Some end } else a) s.arriving
+abbrev pub marked_arrivals : State → Root → FetchEnd → List Arrival
+marked_arrivals s root end =
+    map (λ (a : Arrival). if not (is_some a.mark) && has_root (names a.root s.books) root
+    then record a { mark = Some end } else a) s.arriving

@@ -27,7 +27,8 @@ ticket_for choice None = NotFound
 
 -- the answer, if no read fails
 abbrev pub begin_answer : State → NameAndVariant → Choice → BeginEnd
-begin_answer s path choice = if is_recovery s.running then InRecovery else ticket_for choice (chosen s.base s.cached path choice)
+begin_answer s path choice =
+    if is_recovery s.running then InRecovery else ticket_for choice (chosen s.base s.cached path choice)
 
 abbrev pub is_short : Option ℕ → Bool
 is_short (Some len) = nat_le len META_LIMIT
@@ -48,7 +49,8 @@ IsDueBegin s path choice (Rotten root got) = IsReadFor s path choice root × (ro
 IsDueBegin s path choice reply = reply ≡ begin_answer s path choice
 
 abbrev pub arriving_after_begin : State → ℕ → ℕ → NameAndVariant → BeginEnd → List Arrival
-arriving_after_begin s number lane path (Ticket root) = s.arriving ++ record { ticket = number; lane = lane; path = path; root = root; mark = None } ∷ []
+arriving_after_begin s number lane path (Ticket root) =
+    s.arriving ++ record { ticket = number; lane = lane; path = path; root = root; mark = None } ∷ []
 arriving_after_begin s number lane path reply = s.arriving
 
 abbrev pub next_begin : State → ℕ → ℕ → NameAndVariant → BeginEnd → State

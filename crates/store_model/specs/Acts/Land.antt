@@ -4,7 +4,7 @@ use Rattle.pkg_names.specs.declared.root.Root.{Root}
 use Rattle.fetch_queue.specs.declared.FetchEnd.{FetchEnd}
 use Rattle.fetch_queue.specs.declared.FetchEnd.TheVariants.{Wrong}
 use Rattle.pkg_names.specs.Root.{root_eq}
-use Rattle.store_model.specs.State.{State, Stored, Claim, Arrival, claim_of, without_claim, marked}
+use Rattle.store_model.specs.State.{State, Stored, Claim, Arrival, claim_of, without_claim, marked_arrivals}
 
 -- it lands, or the bytes have another root
 abbrev pub IsLanding : Root → Option FetchEnd → Type 0
@@ -25,7 +25,7 @@ stock_after_land stock root len (Some end) = stock
 
 abbrev pub arriving_after_land : State → Root → Option FetchEnd → List Arrival
 arriving_after_land s root None = s.arriving
-arriving_after_land s root (Some end) = marked s root end
+arriving_after_land s root (Some end) = marked_arrivals s root end
 
 abbrev pub next_land : State → Root → ℕ → Option FetchEnd → State
 next_land s root len reply = record s {

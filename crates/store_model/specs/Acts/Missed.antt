@@ -4,14 +4,14 @@ use Rattle.pkg_names.specs.declared.root.Root.{Root}
 use Rattle.fetch_queue.specs.declared.FetchEnd.TheVariants as ends
 use Rattle.store_model.specs.declared.events.Miss.{Miss}
 use Rattle.store_model.specs.declared.events.Miss.TheVariants as misses
-use Rattle.store_model.specs.State.{State, Claim, Arrival, claim_of, without_claim, marked}
+use Rattle.store_model.specs.State.{State, Claim, Arrival, claim_of, without_claim, marked_arrivals}
 
 abbrev pub IsDueMissed : State → ℕ → Root → Type 0
 IsDueMissed s lane root = IsSomeAnd (claim_of s.claims root) (λ (claim : Claim). claim.lane ≡ lane)
 
 abbrev pub arriving_after_miss : State → Root → Miss → List Arrival
-arriving_after_miss s root misses.Absent = marked s root ends.Absent
-arriving_after_miss s root misses.Read = marked s root ends.Read
+arriving_after_miss s root misses.Absent = marked_arrivals s root ends.Absent
+arriving_after_miss s root misses.Read = marked_arrivals s root ends.Read
 arriving_after_miss s root misses.Memory = s.arriving
 
 abbrev pub next_missed : State → Root → Miss → State

@@ -2,7 +2,7 @@
 use Rattle.std.specs.Prelude.{◌≡◌, ℕ, Option, Some, None, IsSomeAnd, List}
 use Rattle.pkg_names.specs.declared.root.Root.{Root}
 use Rattle.fetch_queue.specs.declared.FetchEnd.{FetchEnd}
-use Rattle.store_model.specs.State.{State, Claim, Arrival, claim_of, with_room, without_claim, marked}
+use Rattle.store_model.specs.State.{State, Claim, Arrival, claim_of, with_room, without_claim, marked_arrivals}
 
 pub record IsRoomless (by : ℕ) (claim : Claim) : Type 0 where
   pub lane : claim.lane ≡ by
@@ -17,7 +17,7 @@ claims_after_room claims root len (Some end) = without_claim claims root
 
 abbrev pub arriving_after_room : State → Root → Option FetchEnd → List Arrival
 arriving_after_room s root None = s.arriving
-arriving_after_room s root (Some end) = marked s root end
+arriving_after_room s root (Some end) = marked_arrivals s root end
 
 abbrev pub next_room : State → Root → ℕ → Option FetchEnd → State
 next_room s root len reply = record s {

@@ -18,7 +18,8 @@ is_complete s root = list_all (is_stored s.stock) (names root s.books)
 -- the first of the roots that is neither stored nor claimed
 abbrev pub first_free : List Stored → List Claim → List Root → Option Root
 first_free stock claims [] = None
-first_free stock claims (root ∷ roots) = if is_stored stock root || is_claimed claims root then first_free stock claims roots else Some root
+first_free stock claims (root ∷ roots) =
+    if is_stored stock root || is_claimed claims root then first_free stock claims roots else Some root
 
 abbrev pub answer_for : Option FetchEnd → Bool → Option Root → Option WantEnd
 answer_for (Some end) complete free = Some (Failed (causes.Fetch end))
@@ -28,7 +29,8 @@ answer_for None false None = None
 
 -- The answer to the holder. There is none while others fetch all that is missing.
 abbrev pub want_answer : State → Arrival → Option WantEnd
-want_answer s arrival = answer_for arrival.mark (is_complete s arrival.root) (first_free s.stock s.claims (names arrival.root s.books))
+want_answer s arrival =
+    answer_for arrival.mark (is_complete s arrival.root) (first_free s.stock s.claims (names arrival.root s.books))
 
 pub record IsAnswered (s : State) (by : ℕ) (reply : WantEnd) (arrival : Arrival) : Type 0 where
   pub lane : arrival.lane ≡ by
@@ -48,7 +50,8 @@ arriving_after_want arriving ticket reply = without_ticket arriving ticket
 
 -- the directory of a package that is opened has the event's number
 abbrev pub with_directory : List Directory → ℕ → ℕ → Option Arrival → List Directory
-with_directory dirs number lane (Some arrival) = dirs ++ record { number = number; lane = lane; root = arrival.root } ∷ []
+with_directory dirs number lane (Some arrival) =
+    dirs ++ record { number = number; lane = lane; root = arrival.root } ∷ []
 with_directory dirs number lane None = dirs
 
 abbrev pub dirs_after_want : State → ℕ → ℕ → ℕ → WantEnd → List Directory
@@ -57,7 +60,8 @@ dirs_after_want s number lane ticket reply = s.dirs
 
 -- a package that is opened is active under its path, unless the path is in the base
 abbrev pub with_active : List Pinned → List Pinned → Option Arrival → List Pinned
-with_active base active (Some arrival) = if is_some (root_at base arrival.path) then active else with_root active arrival.path arrival.root
+with_active base active (Some arrival) =
+    if is_some (root_at base arrival.path) then active else with_root active arrival.path arrival.root
 with_active base active None = active
 
 abbrev pub active_after_want : State → ℕ → WantEnd → List Pinned
