@@ -22,7 +22,7 @@ use Rattle.store_model.specs.declared.events.Miss.TheVariants as misses
 use Rattle.pkg_names.proofs.Roots.{root_eq-true, path_eq-true}
 use Rattle.pkg_tool.specs.declared.script.Request.{Request}
 use Rattle.pkg_tool.specs.Counting.{Asking, asking, askings, asking_of, answers, grants, grant_ends, counted, asked_at, granted_at, Balances}
-use Rattle.pkg_tool.specs.Serving.{Point, Progress, is_pin, after_begin, after_want, after_room, after_miss, goes, served_to, goes_for, passes, leads_to, progress}
+use Rattle.pkg_tool.specs.Serving.{Point, Progress, is_pin, after_begin, after_want, after_room, after_miss, next_point, served_to, progress_by, progress_after, progress_from, progress}
 use Rattle.pkg_tool.specs.Serving.Point.{Rest, Waiting, Granted, Roomy, Giving, Cut}
 
 -- one where the lane rests
@@ -75,7 +75,7 @@ gave_up ticket given = record { asked = refl; answered = refl; fetched = λ r. r
 gave_in : (ticket given : ℕ) → Stepped (Giving ticket) (GaveUp given) Cut
 gave_in ticket given = record { asked = refl; answered = refl; fetched = λ r. refl }
 
-stepped : (request : Request) (from : Point) (number : ℕ) (act : Act) (to : Point) → goes request from number act ≡ Some to → Stepped from act to
+stepped : (request : Request) (from : Point) (number : ℕ) (act : Act) (to : Point) → next_point request from number act ≡ Some to → Stepped from act to
 stepped request Rest number (Boot slot seen) to h = absurd cc
 stepped request Rest number (Begin path choice reply seen) to h =
     let is = picked (path_eq request.path path && is_pin request.root choice) (after_begin number reply) to h in
@@ -161,64 +161,47 @@ asks_for request path choice h =
     let as_asking : NameAndVariant → Choice → Asking = λ p c. record { path = p; choice = c } in
     ap (λ (p : NameAndVariant). as_asking p choice) (sym (path_eq-true request.path path both.0)) ∙ ap (λ (c : Choice). as_asking request.path c) (pinned_is request.root choice both.1)
 
-asks_none : (request : Request) (requests : List Request) (point : Point) (number : ℕ) (act : Act) (to : Point) → asked_at point ≡ 1 → asking act ≡ [] → AsksFirst (request ∷ requests) requests point act
-asks_none request requests point number act to one none = record { first = []; is = none; pending = ap (λ (n : ℕ). drop n (request ∷ requests)) one }
+no_begin : (request : Request) (point : Point) (number : ℕ) (path : NameAndVariant) (choice : Choice) (reply : BeginEnd) (seen : List LookedAt) (to : Point) → asked_at point ≡ 1
+    → next_point request point number (Begin path choice reply seen) ≡ Some to → ⊥
+no_begin request Rest number path choice reply seen to one h = absurd cc
+no_begin request (Waiting ticket) number path choice reply seen to one h = absurd cc
+no_begin request (Granted ticket root) number path choice reply seen to one h = absurd cc
+no_begin request (Roomy ticket root) number path choice reply seen to one h = absurd cc
+no_begin request (Giving ticket) number path choice reply seen to one h = absurd cc
+no_begin request Cut number path choice reply seen to one h = absurd cc
 
-asks_first : (request : Request) (requests : List Request) (point : Point) (number : ℕ) (act : Act) (to : Point) → goes request point number act ≡ Some to → AsksFirst (request ∷ requests) requests point act
-asks_first request requests Rest number (Begin path choice reply seen) to h =
+asks_nothing : (request : Request) (point : Point) (number : ℕ) (act : Act) (to : Point) → asked_at point ≡ 1 → next_point request point number act ≡ Some to → asking act ≡ []
+asks_nothing request point number (Begin path choice reply seen) to one h = absurd (no_begin request point number path choice reply seen to one h)
+asks_nothing request point number (Boot slot seen) to one h = refl
+asks_nothing request point number (Want asked reply) to one h = refl
+asks_nothing request point number (Room made len reply) to one h = refl
+asks_nothing request point number (Land landed len reply seen) to one h = refl
+asks_nothing request point number (Missed missed why) to one h = refl
+asks_nothing request point number (GaveUp given) to one h = refl
+
+-- at a point where a package was asked for, nothing more is
+asks_later : (request : Request) (requests : List Request) (point : Point) (number : ℕ) (act : Act) (to : Point) → asked_at point ≡ 1 → next_point request point number act ≡ Some to → AsksFirst (request ∷ requests) requests point act
+asks_later request requests point number act to one h =
+    record { first = []; is = asks_nothing request point number act to one h; pending = ap (λ (n : ℕ). drop n (request ∷ requests)) one }
+
+asks_at_rest : (request : Request) (requests : List Request) (number : ℕ) (act : Act) (to : Point) → next_point request Rest number act ≡ Some to → AsksFirst (request ∷ requests) requests Rest act
+asks_at_rest request requests number (Begin path choice reply seen) to h =
     let is = picked (path_eq request.path path && is_pin request.root choice) (after_begin number reply) to h in
     record { first = request ∷ []; is = ap (λ (a : Asking). a ∷ []) (asks_for request path choice is.0); pending = refl }
-asks_first request requests Rest number (Boot slot seen) to h = absurd cc
-asks_first request requests Rest number (Want asked reply) to h = absurd cc
-asks_first request requests Rest number (Room made len reply) to h = absurd cc
-asks_first request requests Rest number (Land landed len reply seen) to h = absurd cc
-asks_first request requests Rest number (Missed missed why) to h = absurd cc
-asks_first request requests Rest number (GaveUp given) to h = absurd cc
-asks_first request requests (Waiting ticket) number act to h = asks_none request requests (Waiting ticket) number act to refl (elsewhere act h) where
-  elsewhere : (act : Act) → goes request (Waiting ticket) number act ≡ Some to → asking act ≡ []
-  elsewhere (Begin path choice reply seen) h = absurd cc
-  elsewhere (Boot slot seen) h = refl
-  elsewhere (Want asked reply) h = refl
-  elsewhere (Room made len reply) h = refl
-  elsewhere (Land landed len reply seen) h = refl
-  elsewhere (Missed missed why) h = refl
-  elsewhere (GaveUp given) h = refl
-asks_first request requests (Granted ticket root) number act to h = asks_none request requests (Granted ticket root) number act to refl (elsewhere act h) where
-  elsewhere : (act : Act) → goes request (Granted ticket root) number act ≡ Some to → asking act ≡ []
-  elsewhere (Begin path choice reply seen) h = absurd cc
-  elsewhere (Boot slot seen) h = refl
-  elsewhere (Want asked reply) h = refl
-  elsewhere (Room made len reply) h = refl
-  elsewhere (Land landed len reply seen) h = refl
-  elsewhere (Missed missed why) h = refl
-  elsewhere (GaveUp given) h = refl
-asks_first request requests (Roomy ticket root) number act to h = asks_none request requests (Roomy ticket root) number act to refl (elsewhere act h) where
-  elsewhere : (act : Act) → goes request (Roomy ticket root) number act ≡ Some to → asking act ≡ []
-  elsewhere (Begin path choice reply seen) h = absurd cc
-  elsewhere (Boot slot seen) h = refl
-  elsewhere (Want asked reply) h = refl
-  elsewhere (Room made len reply) h = refl
-  elsewhere (Land landed len reply seen) h = refl
-  elsewhere (Missed missed why) h = refl
-  elsewhere (GaveUp given) h = refl
-asks_first request requests (Giving ticket) number act to h = asks_none request requests (Giving ticket) number act to refl (elsewhere act h) where
-  elsewhere : (act : Act) → goes request (Giving ticket) number act ≡ Some to → asking act ≡ []
-  elsewhere (Begin path choice reply seen) h = absurd cc
-  elsewhere (Boot slot seen) h = refl
-  elsewhere (Want asked reply) h = refl
-  elsewhere (Room made len reply) h = refl
-  elsewhere (Land landed len reply seen) h = refl
-  elsewhere (Missed missed why) h = refl
-  elsewhere (GaveUp given) h = refl
-asks_first request requests Cut number act to h = absurd (nowhere_on act h) where
-  nowhere_on : (act : Act) → goes request Cut number act ≡ Some to → ⊥
-  nowhere_on (Begin path choice reply seen) h = absurd cc
-  nowhere_on (Boot slot seen) h = absurd cc
-  nowhere_on (Want asked reply) h = absurd cc
-  nowhere_on (Room made len reply) h = absurd cc
-  nowhere_on (Land landed len reply seen) h = absurd cc
-  nowhere_on (Missed missed why) h = absurd cc
-  nowhere_on (GaveUp given) h = absurd cc
+asks_at_rest request requests number (Boot slot seen) to h = absurd cc
+asks_at_rest request requests number (Want asked reply) to h = absurd cc
+asks_at_rest request requests number (Room made len reply) to h = absurd cc
+asks_at_rest request requests number (Land landed len reply seen) to h = absurd cc
+asks_at_rest request requests number (Missed missed why) to h = absurd cc
+asks_at_rest request requests number (GaveUp given) to h = absurd cc
+
+asks_first : (request : Request) (requests : List Request) (point : Point) (number : ℕ) (act : Act) (to : Point) → next_point request point number act ≡ Some to → AsksFirst (request ∷ requests) requests point act
+asks_first request requests Rest number act to h = asks_at_rest request requests number act to h
+asks_first request requests (Waiting ticket) number act to h = asks_later request requests (Waiting ticket) number act to refl h
+asks_first request requests (Granted ticket root) number act to h = asks_later request requests (Granted ticket root) number act to refl h
+asks_first request requests (Roomy ticket root) number act to h = asks_later request requests (Roomy ticket root) number act to refl h
+asks_first request requests (Giving ticket) number act to h = asks_later request requests (Giving ticket) number act to refl h
+asks_first request requests Cut number act to h = asks_later request requests Cut number act to refl h
 
 -- the first requests, and as many more
 joined_first : (first rest : List Request) (more : List Asking) → more ≡ map asking_of (take (length more) rest) → map asking_of first ++ more ≡ map asking_of (take (length (map asking_of first ++ more)) (first ++ rest))
@@ -266,11 +249,11 @@ served_pending request requests (Roomy ticket root) = refl
 served_pending request requests (Giving ticket) = refl
 served_pending request requests Cut = refl
 
-moved : (left : List Request) (point : Point) (number : ℕ) (act : Act) (q : Progress) → goes_for left point number act ≡ Some q
+moved : (left : List Request) (point : Point) (number : ℕ) (act : Act) (q : Progress) → progress_by left point number act ≡ Some q
     → (to : Point) × Stepped point act to × (q.point ≡ to) × (length q.left + rests to ≡ length left) × AsksFirst left (drop (asked_at q.point) q.left) point act
 moved [] point number act q h = absurd cc
 moved (request ∷ requests) point number act q h =
-    let m = mapped request requests (goes request point number act) q h in (
+    let m = mapped request requests (next_point request point number act) q h in (
       m.0,
       stepped request point number act m.0 m.1,
       sym (ap (λ (p : Progress). p.point) m.2) ∙ served_point request requests m.0,
@@ -279,7 +262,7 @@ moved (request ∷ requests) point number act q h =
           (asks_first request requests point number act m.0 m.1),
     )
 
-pub nowhere : (number : ℕ) (es : List Event) → leads_to None number es ≡ None
+pub nowhere : (number : ℕ) (es : List Event) → progress_from None number es ≡ None
 nowhere number [] = refl
 nowhere number (e ∷ es) = nowhere (number + 1) es
 
@@ -292,9 +275,9 @@ theirs p mid e es q other same rest = subst (λ (x : Progress). Counted x (e ∷
   fetched = λ root. rw other (omega (arith, rest.fetched root));
 })
 
-ours : (p mid : Progress) (number : ℕ) (e : Event) (es : List Event) (q : Progress) → (e.lane == 1) ≡ true → goes_for p.left p.point number e.act ≡ Some mid → Counted mid es q → Counted p (e ∷ es) q
-ours p mid number e es q lane goes rest =
-    let m = moved p.left p.point number e.act mid goes in
+ours : (p mid : Progress) (number : ℕ) (e : Event) (es : List Event) (q : Progress) → (e.lane == 1) ≡ true → progress_by p.left p.point number e.act ≡ Some mid → Counted mid es q → Counted p (e ∷ es) q
+ours p mid number e es q lane going rest =
+    let m = moved p.left p.point number e.act mid going in
     let asked = subst (λ (point : Point). length (asking e.act) + asked_at p.point ≡ asked_at point + answers e.act) (sym m.2) m.1.asked in
     let answered : answers e.act + length mid.left ≡ length p.left = omega (arith, m.1.answered, m.3) in
     record {
@@ -309,17 +292,17 @@ ours p mid number e es q lane goes rest =
 pub one_progress : (p q : Progress) → ◌≡◌ {A = Option Progress} (Some p) (Some q) → p ≡ q
 one_progress p q h = cc
 
-counts : (p : Progress) (number : ℕ) (es : List Event) (q : Progress) → leads_to (Some p) number es ≡ Some q → Counted p es q
+counts : (p : Progress) (number : ℕ) (es : List Event) (q : Progress) → progress_from (Some p) number es ≡ Some q → Counted p es q
 counts p number [] q h = subst (Counted p []) (one_progress p q h) (record { asked = omega arith; answered = omega arith; fetched = λ root. omega arith; packages = refl })
-counts p number (e ∷ es) q h = on (passes p number e) refl h (λ (mid : Progress). counts mid (number + 1) es q) where
-  made : (lane : Bool) (mid : Progress) → (e.lane == 1) ≡ lane → (if lane then goes_for p.left p.point number e.act else (if number == 1 then Some p else None)) ≡ Some mid → Counted mid es q → Counted p (e ∷ es) q
+counts p number (e ∷ es) q h = on (progress_after p number e) refl h (λ (mid : Progress). counts mid (number + 1) es q) where
+  made : (lane : Bool) (mid : Progress) → (e.lane == 1) ≡ lane → (if lane then progress_by p.left p.point number e.act else (if number == 1 then Some p else None)) ≡ Some mid → Counted mid es q → Counted p (e ∷ es) q
   made true mid lane is rest = ours p mid number e es q lane is rest
   made false mid lane is rest = first (number == 1) is where
     first : (t : Bool) → ◌≡◌ {A = Option Progress} (if t then Some p else None) (Some mid) → Counted p (e ∷ es) q
     first true is = theirs p mid e es q lane (one_progress p mid is) rest
     first false is = absurd cc
 
-  on : (o : Option Progress) → passes p number e ≡ o → leads_to o (number + 1) es ≡ Some q → ((mid : Progress) → leads_to (Some mid) (number + 1) es ≡ Some q → Counted mid es q) → Counted p (e ∷ es) q
+  on : (o : Option Progress) → progress_after p number e ≡ o → progress_from o (number + 1) es ≡ Some q → ((mid : Progress) → progress_from (Some mid) (number + 1) es ≡ Some q → Counted mid es q) → Counted p (e ∷ es) q
   on None is h rest = let none = sym (nowhere (number + 1) es) ∙ h in absurd cc
   on (Some mid) is h rest = made (e.lane == 1) mid refl is (rest mid h)
 

@@ -23,7 +23,7 @@ use Rattle.pkg_tool.specs.declared.repo.File.{File}
 use Rattle.pkg_tool.specs.Files.{file_at}
 use Rattle.pkg_tool.specs.Holding.{Session, Makes, held_after_want, by_lane, ticket_of, root_of, len_of, mark_of, IsTicket, IsClaim, IsRoomless, point_of}
 use Rattle.pkg_tool.specs.Fetching.{Fetches, FitsFiles, read_miss, read_misses, Lands}
-use Rattle.pkg_tool.specs.Serving.{Point, Progress, goes, after_want, after_miss, served_to, passes, leads_to, progress}
+use Rattle.pkg_tool.specs.Serving.{Point, Progress, next_point, after_want, after_miss, served_to, progress_after, progress_from, progress}
 use Rattle.pkg_tool.specs.Steps.{FetchesOn, Serves}
 use Rattle.pkg_tool.specs.Serving.Point.{Rest, Waiting, Granted, Roomy, Giving, Cut}
 use Rattle.std.proofs.lemmas.Bool.{eq-eqb}
@@ -31,62 +31,62 @@ use Rattle.std.proofs.lemmas.Bool.{eq-eqb}
 -- ---- one event more
 
 leads_more : (p : Option Progress) (number : ℕ) (es : List Event) (e : Event)
-    → leads_to p number (es ++ e ∷ []) ≡ option_and_then (λ (q : Progress). passes q (number + length es) e) (leads_to p number es)
-leads_more p number [] e = ap (λ (n : ℕ). option_and_then (λ (q : Progress). passes q n e) p) (omega arith)
+    → progress_from p number (es ++ e ∷ []) ≡ option_and_then (λ (q : Progress). progress_after q (number + length es) e) (progress_from p number es)
+leads_more p number [] e = ap (λ (n : ℕ). option_and_then (λ (q : Progress). progress_after q n e) p) (omega arith)
 leads_more p number (x ∷ es) e =
-    leads_more (option_and_then (λ (q : Progress). passes q number x) p) (number + 1) es e
-    ∙ ap (λ (n : ℕ). option_and_then (λ (q : Progress). passes q n e) (leads_to (option_and_then (λ (q : Progress). passes q number x) p) (number + 1) es)) (omega arith)
+    leads_more (option_and_then (λ (q : Progress). progress_after q number x) p) (number + 1) es e
+    ∙ ap (λ (n : ℕ). option_and_then (λ (q : Progress). progress_after q n e) (progress_from (option_and_then (λ (q : Progress). progress_after q number x) p) (number + 1) es)) (omega arith)
 
-pub serves : (request : Request) (from to : Point) (old new : List Event) (act : Act) → new ≡ old ++ by_lane act ∷ [] → goes request from (length old + 1) act ≡ Some to → Serves request from to old new
+pub serves : (request : Request) (from to : Point) (old new : List Event) (act : Act) → new ≡ old ++ by_lane act ∷ [] → next_point request from (length old + 1) act ≡ Some to → Serves request from to old new
 serves request from to old new act is going = record {
   moves = λ requests left before.
       let same : 1 + length old ≡ length old + 1 = omega arith in
       ap (progress requests) is
       ∙ (leads_more (Some (record { left = requests; point = Rest })) 1 old (by_lane act)
-      ∙ (ap (λ (p : Option Progress). option_and_then (λ (q : Progress). passes q (1 + length old) (by_lane act)) p) before
-      ∙ (ap (λ (n : ℕ). option_map (served_to request left) (goes request from n act)) same
+      ∙ (ap (λ (p : Option Progress). option_and_then (λ (q : Progress). progress_after q (1 + length old) (by_lane act)) p) before
+      ∙ (ap (λ (n : ℕ). option_map (served_to request left) (next_point request from n act)) same
       ∙ ap (option_map (served_to request left)) going)));
 }
 
 -- ---- where the events lead
 
-pub goes_begun : (request : Request) (number : ℕ) (seen : List LookedAt) → goes request Rest number (Begin request.path (Pinned request.root) (begins.Ticket request.root) seen) ≡ Some (Waiting number)
+pub goes_begun : (request : Request) (number : ℕ) (seen : List LookedAt) → next_point request Rest number (Begin request.path (Pinned request.root) (begins.Ticket request.root) seen) ≡ Some (Waiting number)
 goes_begun request number seen =
     rw ((bytes_eq-Decides request.path.name request.path.name).1 refl, (bytes_eq-Decides request.path.variant request.path.variant).1 refl, root_eq-refl request.root) refl
 
-pub goes_asked : (request : Request) (held : Held) (number : ℕ) (reply : WantEnd) → IsTicket held → goes request (point_of held) number (Want (ticket_of held) reply) ≡ Some (after_want (ticket_of held) reply)
+pub goes_asked : (request : Request) (held : Held) (number : ℕ) (reply : WantEnd) → IsTicket held → next_point request (point_of held) number (Want (ticket_of held) reply) ≡ Some (after_want (ticket_of held) reply)
 goes_asked request (Ticket ticket root mark) number reply h = rw (eq-eqb ticket ticket refl) refl
 goes_asked request Nothing number reply h = absurd h
 goes_asked request (Claim ticket root len) number reply h = absurd h
 
-pub goes_roomed : (request : Request) (held : Held) (number len : ℕ) → IsRoomless held → goes request (point_of held) number (Room (root_of held) len None) ≡ Some (Roomy (ticket_of held) (root_of held))
+pub goes_roomed : (request : Request) (held : Held) (number len : ℕ) → IsRoomless held → next_point request (point_of held) number (Room (root_of held) len None) ≡ Some (Roomy (ticket_of held) (root_of held))
 goes_roomed request (Claim ticket root None) number len h = rw (root_eq-refl root) refl
 goes_roomed request (Claim ticket root (Some room)) number len h = absurd cc
 goes_roomed request Nothing number len h = absurd h
 goes_roomed request (Ticket ticket root mark) number len h = absurd h
 
 pub goes_landed : (request : Request) (held : Held) (number len room : ℕ) (end : Option FetchEnd) (seen : List LookedAt) → len_of held ≡ Some room
-    → goes request (point_of held) number (Land (root_of held) len end seen) ≡ Some (Waiting (ticket_of held))
+    → next_point request (point_of held) number (Land (root_of held) len end seen) ≡ Some (Waiting (ticket_of held))
 goes_landed request (Claim ticket root (Some room')) number len room end seen h = rw (root_eq-refl root) refl
 goes_landed request (Claim ticket root None) number len room end seen h = absurd cc
 goes_landed request Nothing number len room end seen h = absurd cc
 goes_landed request (Ticket ticket root mark) number len room end seen h = absurd cc
 
-pub goes_missed : (request : Request) (held : Held) (number : ℕ) (why : Miss) → IsClaim held → goes request (point_of held) number (Missed (root_of held) why) ≡ Some (after_miss (ticket_of held) why)
+pub goes_missed : (request : Request) (held : Held) (number : ℕ) (why : Miss) → IsClaim held → next_point request (point_of held) number (Missed (root_of held) why) ≡ Some (after_miss (ticket_of held) why)
 goes_missed request (Claim ticket root None) number why h = rw (root_eq-refl root) refl
 goes_missed request (Claim ticket root (Some room)) number why h = rw (root_eq-refl root) refl
 goes_missed request Nothing number why h = absurd h
 goes_missed request (Ticket ticket root mark) number why h = absurd h
 
-pub goes_given : (request : Request) (held : Held) (number : ℕ) → IsTicket held → goes request (point_of held) number (GaveUp (ticket_of held)) ≡ Some Cut
+pub goes_given : (request : Request) (held : Held) (number : ℕ) → IsTicket held → next_point request (point_of held) number (GaveUp (ticket_of held)) ≡ Some Cut
 goes_given request (Ticket ticket root mark) number h = rw (eq-eqb ticket ticket refl) refl
 goes_given request Nothing number h = absurd h
 goes_given request (Claim ticket root len) number h = absurd h
 
-pub goes_left : (request : Request) (ticket number : ℕ) → goes request (Giving ticket) number (GaveUp ticket) ≡ Some Cut
+pub goes_left : (request : Request) (ticket number : ℕ) → next_point request (Giving ticket) number (GaveUp ticket) ≡ Some Cut
 goes_left request ticket number = rw (eq-eqb ticket ticket refl) refl
 
-pub goes_made : (request : Request) (old new : Session) (act : Act) (held : Held) → Makes old act held new → goes request (point_of old.held) (length old.history + 1) act ≡ Some (point_of held)
+pub goes_made : (request : Request) (old new : Session) (act : Act) (held : Held) → Makes old act held new → next_point request (point_of old.held) (length old.history + 1) act ≡ Some (point_of held)
     → Serves request (point_of old.held) (point_of new.held) old.history new.history
 goes_made request old new act held made going =
     serves request (point_of old.held) (point_of new.held) old.history new.history act made.0 (going ∙ ap (λ (h : Held). Some (point_of h)) (sym made.1))

@@ -23,7 +23,7 @@ use Rattle.store_model.specs.State.{State, Standing, Claim, Arrival, opened, wit
 use Rattle.store_model.specs.Step.{next, step, is_boot}
 use Rattle.store_model.specs.History.{IsLegalFrom, IsLegal, after_from, after}
 use Rattle.pkg_tool.specs.declared.script.Request.{Request}
-use Rattle.pkg_tool.specs.Serving.{Point, Progress, is_pin, after_begin, after_want, after_room, after_miss, goes, goes_for, passes, leads_to, progress}
+use Rattle.pkg_tool.specs.Serving.{Point, Progress, is_pin, after_begin, after_want, after_room, after_miss, next_point, progress_by, progress_after, progress_from, progress}
 use Rattle.pkg_tool.specs.Serving.Point.{Rest, Waiting, Granted, Roomy, Giving, Cut}
 use Rattle.pkg_tool.specs.Running.{ServesTo}
 use Rattle.pkg_tool.specs.Resting.{claimed, tickets, Holds, HoldsNothing}
@@ -145,7 +145,7 @@ module _ (request : Request) (number lane : ℕ) (ours : (lane == 1) ≡ true) (
   gives_up : (ticket given : ℕ) → (given == ticket) ≡ true → claimed s.claims ≡ [] → tickets s.arriving ≡ ticket ∷ [] → Holds Cut (next s number lane (GaveUp given))
   gives_up ticket given same c a = record { claims = c; arriving = leaves_ticket given ticket same a }
 
-  moves_on : (from : Point) (act : Act) (to : Point) → goes request from number act ≡ Some to → Holds from s → Holds to (next s number lane act)
+  moves_on : (from : Point) (act : Act) (to : Point) → next_point request from number act ≡ Some to → Holds from s → Holds to (next s number lane act)
   moves_on Rest (Begin path choice reply seen) to h held =
       let is = picked (path_eq request.path path && is_pin request.root choice) (after_begin number reply) to h in
       subst (λ (p : Point). Holds p (next s number lane (Begin path choice reply seen))) is.1 (arrives path choice reply seen held)
@@ -217,25 +217,25 @@ boots s number lane (Land landed len reply seen) point h held = absurd cc
 boots s number lane (Missed missed why) point h held = absurd cc
 boots s number lane (GaveUp given) point h held = absurd cc
 
-moves_for : (left : List Request) (s : State) (number lane : ℕ) (point : Point) (act : Act) (mid : Progress) → (lane == 1) ≡ true → goes_for left point number act ≡ Some mid → Holds point s → Holds mid.point (next s number lane act)
+moves_for : (left : List Request) (s : State) (number lane : ℕ) (point : Point) (act : Act) (mid : Progress) → (lane == 1) ≡ true → progress_by left point number act ≡ Some mid → Holds point s → Holds mid.point (next s number lane act)
 moves_for [] s number lane point act mid ours h held = absurd cc
 moves_for (request ∷ requests) s number lane point act mid ours h held =
-    let m = mapped request requests (goes request point number act) mid h in
+    let m = mapped request requests (next_point request point number act) mid h in
     subst (λ (p : Point). Holds p (next s number lane act)) (sym (served_point request requests m.0) ∙ ap (λ (p : Progress). p.point) m.2) (moves_on request number lane ours s point act m.0 m.1 held)
 
-holds_from : (s : State) (p : Progress) (number : ℕ) (es : List Event) (q : Progress) → leads_to (Some p) number es ≡ Some q → IsLegalFrom s number es → Holds p.point s → Holds q.point (after_from s number es)
+holds_from : (s : State) (p : Progress) (number : ℕ) (es : List Event) (q : Progress) → progress_from (Some p) number es ≡ Some q → IsLegalFrom s number es → Holds p.point s → Holds q.point (after_from s number es)
 holds_from s p number [] q h legal held = subst (λ (x : Progress). Holds x.point s) (one_progress p q h) held
-holds_from s p number (e ∷ es) q h legal held = on (passes p number e) refl h (λ (mid : Progress) led is. holds_from (step s number e) mid (number + 1) es q led legal.1 is) where
+holds_from s p number (e ∷ es) q h legal held = on (progress_after p number e) refl h (λ (mid : Progress) led is. holds_from (step s number e) mid (number + 1) es q led legal.1 is) where
   settled : (point : Point) → Holds point (next s number e.lane e.act) → Holds point (step s number e)
   settled point is = record { claims = is.claims; arriving = is.arriving }
 
-  passed : (lane first : Bool) (mid : Progress) → (e.lane == 1) ≡ lane → (number == 1) ≡ first → (if lane then goes_for p.left p.point number e.act else (if first then Some p else None)) ≡ Some mid → Holds mid.point (step s number e)
+  passed : (lane first : Bool) (mid : Progress) → (e.lane == 1) ≡ lane → (number == 1) ≡ first → (if lane then progress_by p.left p.point number e.act else (if first then Some p else None)) ≡ Some mid → Holds mid.point (step s number e)
   passed true first mid lane one is = settled mid.point (moves_for p.left s number e.lane p.point e.act mid lane is held)
   passed false true mid lane one is = subst (λ (x : Progress). Holds x.point (step s number e)) (one_progress p mid is) (settled p.point (boots s number e.lane e.act p.point (legal.0.boots ∙ one) held))
   passed false false mid lane one is = absurd cc
 
-  on : (o : Option Progress) → passes p number e ≡ o → leads_to o (number + 1) es ≡ Some q
-      → ((mid : Progress) → leads_to (Some mid) (number + 1) es ≡ Some q → Holds mid.point (step s number e) → Holds q.point (after_from s number (e ∷ es))) → Holds q.point (after_from s number (e ∷ es))
+  on : (o : Option Progress) → progress_after p number e ≡ o → progress_from o (number + 1) es ≡ Some q
+      → ((mid : Progress) → progress_from (Some mid) (number + 1) es ≡ Some q → Holds mid.point (step s number e) → Holds q.point (after_from s number (e ∷ es))) → Holds q.point (after_from s number (e ∷ es))
   on None is h rest = let none = sym (nowhere (number + 1) es) ∙ h in absurd cc
   on (Some mid) is h rest = rest mid h (passed (e.lane == 1) (number == 1) mid refl refl is)
 

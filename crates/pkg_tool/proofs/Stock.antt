@@ -15,7 +15,7 @@ use Rattle.store_model.specs.Settling.{with_looked, with_long, IsSeen}
 use Rattle.pkg_names.proofs.Roots.{root_eq-true, root_eq-refl}
 use Rattle.store_model.proofs.Knowing.{Knows, knows_long, knows_pair, knows_stored_long}
 use Rattle.pkg_tool.specs.Fetching.{landed_seen}
-use Rattle.pkg_tool.specs.Mirrors.{stored, blob_at, looks, short_blob, missing_of}
+use Rattle.pkg_tool.specs.Mirrors.{stored, blob_at, looked_blobs, short_blob, missing_of}
 
 through_cond : {A B : Type 0} (f : A → B) (test : Bool) (x : A) (y : Option A) → cond test (Some (f x)) (option_map f y) ≡ option_map f (cond test (Some x) y)
 through_cond f true x y = refl
@@ -55,7 +55,7 @@ seen_blob blobs root have (Some b) e =
       short true e a c = tt
       short false e a c = (a, c, ltb-false META_LIMIT (length b.bytes) e, tt)
 
-pub seen_is : (blobs : List LookedAt) (opened : List Root) (root : Root) → HaveRoots blobs → IsSeen (looks blobs opened root) (stored blobs)
+pub seen_is : (blobs : List LookedAt) (opened : List Root) (root : Root) → HaveRoots blobs → IsSeen (looked_blobs blobs opened root) (stored blobs)
 seen_is blobs opened root have = either (has_root opened root) where
   either : (known : Bool) → IsSeen (cond known [] (short_blob (blob_at blobs root))) (stored blobs)
   either true = tt
@@ -78,7 +78,7 @@ knows_found books blobs root have (Some b) e some =
 
 -- A package that is asked for, and stored, is open already, or is known by what was looked at.
 pub known_or_open : (books : Books) (blobs : List LookedAt) (opened : List Root) (root : Root) → HaveRoots blobs → is_stored (stored blobs) root ≡ true
-    → (has_root opened root ≡ true) ⊎ Knows root (with_long (with_looked books (looks blobs opened root)) (stored blobs))
+    → (has_root opened root ≡ true) ⊎ Knows root (with_long (with_looked books (looked_blobs blobs opened root)) (stored blobs))
 known_or_open books blobs opened root have is = either (has_root opened root) (sym (is_stored_is blobs root) ∙ is) where
   either : (known : Bool) → is_some (blob_at blobs root) ≡ true → (known ≡ true) ⊎ Knows root (with_long (with_looked books (cond known [] (short_blob (blob_at blobs root)))) (stored blobs))
   either true some = inl refl

@@ -24,7 +24,7 @@ use Rattle.store_model.proofs.Knowing.{Knows, known_after}
 use Rattle.pkg_tool.specs.declared.store.Held.TheVariants.{Nothing, Ticket, Claim}
 use Rattle.pkg_tool.specs.Fetching.{landed_seen}
 use Rattle.pkg_tool.specs.Holding.{by_lane}
-use Rattle.pkg_tool.specs.Mirrors.{Mirrors, stored, looks}
+use Rattle.pkg_tool.specs.Mirrors.{Mirrors, stored, looked_blobs}
 use Rattle.pkg_tool.proofs.Protected.{Among, among_either, among_left, among_right, still_known, same_known}
 use Rattle.pkg_tool.proofs.Stock.{known_or_open, seen_is, knows_landed, landed_is_seen, stored_push, stored_last, stored_before}
 use Rattle.pkg_tool.proofs.Parts.{Goes, shaped}
@@ -38,12 +38,12 @@ is_among : (root x : Root) → root ≡ x → Among x (root ∷ [])
 is_among root x same = rw (root_eq-same root x same) refl
 
 pub asks : (blobs : List LookedAt) (opened : List Root) (path : NameAndVariant) (root : Root) (s : State) (number : ℕ) → (number == 1) ≡ false → Mirrors blobs opened Nothing s
-    → Goes s number (by_lane (acts.Begin path (choices.Pinned root) (begins.Ticket root) (looks blobs opened root))) blobs opened (Ticket number root None)
+    → Goes s number (by_lane (acts.Begin path (choices.Pinned root) (begins.Ticket root) (looked_blobs blobs opened root))) blobs opened (Ticket number root None)
 asks blobs opened path root s number later m =
     let now : State = shape blobs opened Nothing s m in
     let then : State = record now { arriving = record { ticket = number; lane = 1; path = path; root = root; mark = None } ∷ [] } in
-    let looked : HasLooked (looks blobs opened root) then =
-    still_known now.books (looks blobs opened root) (stored blobs) (stored blobs) (protected_in now) (protected_in then) (known_in_shape blobs opened Nothing s m)
+    let looked : HasLooked (looked_blobs blobs opened root) then =
+    still_known now.books (looked_blobs blobs opened root) (stored blobs) (stored blobs) (protected_in now) (protected_in then) (known_in_shape blobs opened Nothing s m)
     (λ x among is.
     elim (among_either (front_of now ++ root ∷ []) (dir_roots now) x among) [
       | inr last ↦ inl (among_right (front_of now ++ []) (dir_roots now) x last, is)
@@ -54,11 +54,11 @@ asks blobs opened path root s number later m =
                 let same = only_root root x new in
                 elim (known_or_open now.books blobs opened root m.roots (ap (is_stored (stored blobs)) same ∙ is)) [
                   | inl open_already ↦ inl (among_right (front_of now ++ []) (dir_roots now) x (ap (has_root (dir_roots now)) (sym same) ∙ (ap (λ (roots : List Root). has_root roots root) m.dirs ∙ open_already)), is)
-                  | inr known ↦ inr (subst (λ (r : Root). Knows r (with_long (with_looked now.books (looks blobs opened root)) (stored blobs))) same known)
+                  | inr known ↦ inr (subst (λ (r : Root). Knows r (with_long (with_looked now.books (looked_blobs blobs opened root)) (stored blobs))) same known)
                 ]
           ]
     ]) in
-    let due : IsDue now number (by_lane (acts.Begin path (choices.Pinned root) (begins.Ticket root) (looks blobs opened root))) = record {
+    let due : IsDue now number (by_lane (acts.Begin path (choices.Pinned root) (begins.Ticket root) (looked_blobs blobs opened root))) = record {
       whole = refl;
       boots = sym later;
       goes_on = refl;
@@ -66,7 +66,7 @@ asks blobs opened path root s number later m =
       looked = looked;
       seen = seen_is blobs opened root m.roots;
     } in
-    subst (λ (x : State). Goes x number (by_lane (acts.Begin path (choices.Pinned root) (begins.Ticket root) (looks blobs opened root))) blobs opened (Ticket number root None)) (sym m.shape) (record {
+    subst (λ (x : State). Goes x number (by_lane (acts.Begin path (choices.Pinned root) (begins.Ticket root) (looked_blobs blobs opened root))) blobs opened (Ticket number root None)) (sym m.shape) (record {
       due = due;
       mirrors = record {
         path = path;
@@ -74,7 +74,7 @@ asks blobs opened path root s number later m =
         dirs = m.dirs;
         roots = m.roots;
         fresh = tt;
-        known = known_after now number (by_lane (acts.Begin path (choices.Pinned root) (begins.Ticket root) (looks blobs opened root))) due;
+        known = known_after now number (by_lane (acts.Begin path (choices.Pinned root) (begins.Ticket root) (looked_blobs blobs opened root))) due;
       };
     })
 

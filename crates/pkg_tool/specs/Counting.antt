@@ -80,4 +80,5 @@ pub record Balances (requests left : List Request) (point : Point) (history : Li
   pub packages : askings history ≡ map asking_of (take (length (askings history)) requests)
   pub asked : length (askings history) + length left ≡ length requests + asked_at point
   pub answered : counted answers history + length left ≡ length requests
-  pub fetched : (root : Root) → counted (grants root) history ≡ counted (grant_ends root) history + granted_at root point
+  pub fetched : (root : Root) → counted (grants root) history ≡ counted
+      (grant_ends root) history + granted_at root point

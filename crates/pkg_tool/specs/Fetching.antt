@@ -30,7 +30,8 @@ Lands root bytes (Some end) seen = ⊥
 abbrev pub FitsFiles : List File → Act → Type 0
 FitsFiles files (Missed root misses.Absent) = file_at files root ≡ None
 FitsFiles files (Room root len reply) = option_map length (file_at files root) ≡ Some len
-FitsFiles files (Land root len reply seen) = (bytes : List ℕ) × (file_at files root ≡ Some bytes) × (length bytes ≡ len) × Lands root bytes reply seen
+FitsFiles files (Land root len reply seen) =
+    (bytes : List ℕ) × (file_at files root ≡ Some bytes) × (length bytes ≡ len) × Lands root bytes reply seen
 FitsFiles files act = Unit {0}
 
 -- a file that could not be read

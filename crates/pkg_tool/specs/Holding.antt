@@ -83,4 +83,5 @@ mark_held held = None
 
 -- the blob of the package that arrives is stored, or won't be
 abbrev pub is_decided : Session → Bool
-is_decided session = is_some (mark_held session.held) || is_stored (after bare session.history).stock (root_of session.held)
+is_decided session =
+    is_some (mark_held session.held) || is_stored (after bare session.history).stock (root_of session.held)

@@ -31,7 +31,8 @@ file_reply (Some bytes) = if nat_le (length bytes) FILE_LIMIT then Found bytes e
 -- the answer to the call of this number
 abbrev pub reply_to : RepoInMemory → ℕ → Root → FileReply
 reply_to repo call root =
-    if is_among repo.failing call then Failed else (if is_among repo.starving call then NoMemory else file_reply (file_at repo.files root))
+    if is_among repo.failing call then Failed else
+    (if is_among repo.starving call then NoMemory else file_reply (file_at repo.files root))
 
 -- the answer is this one, or want of memory in place of a file
 abbrev pub MayReply : FileReply → FileReply → Type 0

@@ -25,8 +25,8 @@ abbrev pub short_blob : Option LookedAt → List LookedAt
 short_blob None = []
 short_blob (Some b) = landed_seen b.root b.bytes
 
-abbrev pub looks : List LookedAt → List Root → Root → List LookedAt
-looks blobs opened root = if has_root opened root then [] else short_blob (blob_at blobs root)
+abbrev pub looked_blobs : List LookedAt → List Root → Root → List LookedAt
+looked_blobs blobs opened root = if has_root opened root then [] else short_blob (blob_at blobs root)
 
 -- the blob of a package that isn't stored
 abbrev pub missing_of : List LookedAt → Root → Option Root
@@ -34,8 +34,10 @@ missing_of blobs root = if not (is_some (blob_at blobs root)) then Some root els
 
 abbrev pub arriving_of : Held → NameAndVariant → List Arrival
 arriving_of Nothing path = []
-arriving_of (Ticket ticket root mark) path = record { ticket = ticket; lane = 1; path = path; root = root; mark = mark } ∷ []
-arriving_of (Claim ticket root len) path = record { ticket = ticket; lane = 1; path = path; root = root; mark = None } ∷ []
+arriving_of (Ticket ticket root mark) path =
+    record { ticket = ticket; lane = 1; path = path; root = root; mark = mark } ∷ []
+arriving_of (Claim ticket root len) path =
+    record { ticket = ticket; lane = 1; path = path; root = root; mark = None } ∷ []
 
 abbrev pub claims_of : Held → List Claimed
 claims_of (Claim ticket root len) = record { root = root; lane = 1; len = len } ∷ []
@@ -43,7 +45,8 @@ claims_of held = []
 
 -- the state with these parts, A running, and nothing broken
 abbrev pub with_parts : State → List Stored → List Arrival → List Claimed → State
-with_parts s stock arriving claims = record s { stock = stock; arriving = arriving; claims = claims; running = slots.A; broken = None }
+with_parts s stock arriving claims =
+    record s { stock = stock; arriving = arriving; claims = claims; running = slots.A; broken = None }
 
 -- a claimed root isn't stored
 abbrev pub IsFresh : List Stored → Held → Type 0
@@ -64,7 +67,8 @@ spare_for Nothing = 0
 spare_for (Ticket ticket root mark) = 1
 spare_for (Claim ticket root len) = 2
 
-pub record IsStore (history : List Event) (spare : ℕ) (blobs : List LookedAt) (opened : List Root) (held : Held) : Type 0 where
+pub record IsStore (history : List Event) (spare : ℕ) (blobs : List LookedAt) (opened : List Root)
+    (held : Held) : Type 0 where
   pub begun : 0 < length history
   pub legal : IsLegal bare history
   pub mirrors : Mirrors blobs opened held (after bare history)

@@ -54,16 +54,22 @@ after_miss ticket misses.Memory = Giving ticket
 after_miss ticket why = Waiting ticket
 
 -- where the event of this number leads to while the request is served; nowhere, if it may not come there
-abbrev pub goes : Request → Point → ℕ → Act → Option Point
-goes request Rest number (Begin path choice reply seen) = if path_eq request.path path && is_pin request.root choice then Some (after_begin number reply) else None
-goes request (Waiting ticket) number (Want asked reply) = if asked == ticket then Some (after_want ticket reply) else None
-goes request (Waiting ticket) number (GaveUp given) = if given == ticket then Some Cut else None
-goes request (Granted ticket root) number (Room made len reply) = if root_eq made root then Some (after_room ticket root reply) else None
-goes request (Granted ticket root) number (Missed missed why) = if root_eq missed root then Some (after_miss ticket why) else None
-goes request (Roomy ticket root) number (Land landed len reply seen) = if root_eq landed root then Some (Waiting ticket) else None
-goes request (Roomy ticket root) number (Missed missed why) = if root_eq missed root then Some (after_miss ticket why) else None
-goes request (Giving ticket) number (GaveUp given) = if given == ticket then Some Cut else None
-goes request point number act = None
+abbrev pub next_point : Request → Point → ℕ → Act → Option Point
+next_point request Rest number (Begin path choice reply seen) =
+    if path_eq request.path path && is_pin request.root choice then Some (after_begin number reply) else None
+next_point request (Waiting ticket) number (Want asked reply) =
+    if asked == ticket then Some (after_want ticket reply) else None
+next_point request (Waiting ticket) number (GaveUp given) = if given == ticket then Some Cut else None
+next_point request (Granted ticket root) number (Room made len reply) =
+    if root_eq made root then Some (after_room ticket root reply) else None
+next_point request (Granted ticket root) number (Missed missed why) =
+    if root_eq missed root then Some (after_miss ticket why) else None
+next_point request (Roomy ticket root) number (Land landed len reply seen) =
+    if root_eq landed root then Some (Waiting ticket) else None
+next_point request (Roomy ticket root) number (Missed missed why) =
+    if root_eq missed root then Some (after_miss ticket why) else None
+next_point request (Giving ticket) number (GaveUp given) = if given == ticket then Some Cut else None
+next_point request point number act = None
 
 -- the requests that are left, the one being served included, and what the lane holds
 pub record Progress : Type 0 where
@@ -75,28 +81,34 @@ abbrev pub served_to : Request → List Request → Point → Progress
 served_to request requests Rest = record { left = requests; point = Rest }
 served_to request requests point = record { left = request ∷ requests; point = point }
 
-abbrev pub goes_for : List Request → Point → ℕ → Act → Option Progress
-goes_for [] point number act = None
-goes_for (request ∷ requests) point number act = option_map (served_to request requests) (goes request point number act)
+abbrev pub progress_by : List Request → Point → ℕ → Act → Option Progress
+progress_by [] point number act = None
+progress_by (request ∷ requests) point number act =
+    option_map (served_to request requests) (next_point request point number act)
 
--- where an event of this number leads: the lane's as its request goes, and the first one, which is the boot, to where it was
-abbrev pub passes : Progress → ℕ → Event → Option Progress
-passes p number e = if e.lane == 1 then goes_for p.left p.point number e.act else (if number == 1 then Some p else None)
+-- where an event of this number leads: the lane's as its request goes on, and the first one, which is the boot,
+-- to where it was
+abbrev pub progress_after : Progress → ℕ → Event → Option Progress
+progress_after p number e =
+    if e.lane == 1 then progress_by p.left p.point number e.act else (if number == 1 then Some p else None)
 
 -- the events from this number on lead there
-abbrev pub leads_to : Option Progress → ℕ → List Event → Option Progress
-leads_to progress number [] = progress
-leads_to progress number (e ∷ es) = leads_to (option_and_then (λ (p : Progress). passes p number e) progress) (number + 1) es
+abbrev pub progress_from : Option Progress → ℕ → List Event → Option Progress
+progress_from progress number [] = progress
+progress_from progress number (e ∷ es) =
+    progress_from (option_and_then (λ (p : Progress). progress_after p number e) progress) (number + 1) es
 
 -- how far the history has come with the requests
 abbrev pub progress : List Request → List Event → Option Progress
-progress requests history = leads_to (Some (record { left = requests; point = Rest })) 1 history
+progress requests history = progress_from (Some (record { left = requests; point = Rest })) 1 history
 
 -- all requests were served
 abbrev pub ServesAll : List Request → List Event → Type 0
 ServesAll requests history = progress requests history ≡ Some (record { left = []; point = Rest })
 
--- the first ones were, and the run of the next was cut for want of memory, before its first event or after; nothing is held
+-- the first ones were, and the run of the next was cut for want of memory, before its first event or after;
+-- nothing is held
 abbrev pub ServesFront : List Request → List Event → Type 0
 ServesFront requests history =
-    (left : List Request) × ((progress requests history ≡ Some (record { left = left; point = Rest })) ⊎ (progress requests history ≡ Some (record { left = left; point = Cut })))
+    (left : List Request) × ((progress requests history ≡ Some (record { left = left; point = Rest })) ⊎
+    (progress requests history ≡ Some (record { left = left; point = Cut })))

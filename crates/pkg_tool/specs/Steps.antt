@@ -35,14 +35,19 @@ last_status printed starved = printed
 
 -- from one point the lane comes to the other, with the first request that is left
 pub record Serves (request : Request) (from to : Point) (old new : List Event) : Type 0 where
-  pub moves : (requests left : List Request) → progress requests old ≡ Some (record { left = request ∷ left; point = from }) → progress requests new ≡ Some (served_to request left to)
+  pub moves : (requests left : List Request) →
+      progress requests old ≡ Some (record { left = request ∷ left; point = from }) →
+      progress requests new ≡ Some (served_to request left to)
 
 -- with the first request that is left, the lane is at rest before it or was cut
 abbrev pub ServesFrontOf : Request → List Event → List Event → Type 0
-ServesFrontOf request old new = (requests left : List Request) → progress requests old ≡ Some (record { left = request ∷ left; point = Rest }) → ServesFront requests new
+ServesFrontOf request old new =
+    (requests left : List Request) → progress requests old ≡ Some (record { left = request ∷ left; point = Rest })
+    → ServesFront requests new
 
 -- The events that came fit the files, where they are told; and for each file that could not be read the
 -- repository's count rose.
 pub record FetchesOn (files : Option (List File)) (before after : ℕ) (old new : List Event) : Type 0 where
-  pub fits : IfSome files (λ all. All (λ (e : Event). FitsFiles all e.act) old → All (λ (e : Event). FitsFiles all e.act) new)
+  pub fits : IfSome files (λ all. All (λ (e : Event). FitsFiles all e.act) old →
+      All (λ (e : Event). FitsFiles all e.act) new)
   pub reads : (start : ℕ) → RoseBy (read_misses old) start before → RoseBy (read_misses new) start after

@@ -83,7 +83,8 @@ outcome_text e = if e.broke then codes " broke" else answer_text e.act
 
 -- one event: its number, its lane, its call and the outcome
 abbrev pub line : ℕ → Event → List ℕ
-line number e = decimal number ++ codes " " ++ decimal e.lane ++ codes " " ++ call_text e.act ++ outcome_text e ++ line_feed ∷ []
+line number e =
+    decimal number ++ codes " " ++ decimal e.lane ++ codes " " ++ call_text e.act ++ outcome_text e ++ line_feed ∷ []
 
 -- the lines of events from this number on
 abbrev pub lines_from : ℕ → List Event → List ℕ

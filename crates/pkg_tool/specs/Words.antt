@@ -10,5 +10,6 @@ is_word (c ∷ cs) = not (c == hyphen)
 
 -- `run` and three such words
 abbrev pub are_run_words : List (List ℕ) → Bool
-are_run_words (command ∷ image ∷ repo ∷ script ∷ []) = bytes_eq command (codes "run") && is_word image && is_word repo && is_word script
+are_run_words (command ∷ image ∷ repo ∷ script ∷ []) =
+    bytes_eq command (codes "run") && is_word image && is_word repo && is_word script
 are_run_words words = false

@@ -26,14 +26,16 @@ pub fn limits()
 
 /// A script asks for one list of requests.
 pub fn scripts_are_read_one_way()
-    ensures { (text : List ℕ) (requests others : List Request) → IsScript text requests → IsScript text others → requests ≡ others }
+    ensures { (text : List ℕ) (requests others : List Request) → IsScript text requests → IsScript text others
+        → requests ≡ others }
 {}
 
 /// A text is no script where a line is the first bad one, and one line is that, for one reason.
 pub fn scripts_are_judged()
     ensures script { (text : List ℕ) (requests : List Request) (line : ℕ) (fault : TextFault) →
         IsScript text requests → ¬ IsBadAt fault text line }
-    ensures one { (text : List ℕ) (line at : ℕ) (fault other : TextFault) → IsBadAt fault text line → IsBadAt other text at →
+    ensures one { (text : List ℕ) (line at : ℕ) (fault other : TextFault) → IsBadAt fault text line
+        → IsBadAt other text at →
         (line ≡ at) × (fault ≡ other) }
 {}
 
@@ -46,8 +48,10 @@ pub fn serving_balances()
 
 /// In a legal history that serves, the lane holds what its point says; in the end it holds nothing.
 pub fn serving_holds()
-    ensures holds { (d : Standing) (requests left : List Request) (point : Point) (history : List EventOf) → IsLegal d history →
+    ensures holds { (d : Standing) (requests left : List Request) (point : Point) (history : List EventOf)
+        → IsLegal d history →
         progress requests history ≡ Some (record { left = left; point = point }) → Holds point (after d history) }
-    ensures nothing { (d : Standing) (requests : List Request) (starved : Bool) (history : List EventOf) → IsLegal d history →
+    ensures nothing { (d : Standing) (requests : List Request) (starved : Bool) (history : List EventOf)
+        → IsLegal d history →
         ServesTo starved requests history → HoldsNothing (after d history) }
 {}

@@ -29,7 +29,13 @@ impl Model for MemRepo {
 
     ghost Value = { RepoInMemory };
 
-    ghost view = { λ r. record { files = r.files.items; failing = r.failing.items; starving = r.starving.items; calls = r.calls; faults = r.faults } };
+    ghost view = { λ r. record {
+      files = r.files.items;
+      failing = r.failing.items;
+      starving = r.starving.items;
+      calls = r.calls;
+      faults = r.faults;
+    } };
 }
 
 impl MemRepo {

@@ -26,10 +26,10 @@ pub(crate) fn text_of(alloc: Global, history: &[Event]) -> Result<Vec<u8>, Alloc
 fn push_line(alloc: Global, out: &mut Vec<u8>, number: u64, event: &Event) -> Result<(), AllocError>
     ensures { OnOk result (out.new.items ≡ out.old.items ++ line number event.now) }
 {
-    push_number(alloc, out, number)?;
-    out.extend_from_slice(b" ")?;
-    push_number(alloc, out, u64::from(event.lane))?;
-    out.extend_from_slice(b" ")?;
+    let lane = event.lane;
+    let mut head = String::new(alloc);
+    write!(head, "{number} {lane} ")?;
+    out.extend_from_slice(head.as_bytes())?;
     push_call(alloc, out, &event.act)?;
     push_outcome(alloc, out, event)?;
     out.extend_from_slice(b"\n")
@@ -51,11 +51,11 @@ fn push_call(alloc: Global, out: &mut Vec<u8>, act: &Act) -> Result<(), AllocErr
     match act {
         Act::Boot { .. } => out.extend_from_slice(b"boot"),
         Act::Begin { path, .. } => push_path(out, path),
-        Act::Want { ticket, .. } => push_counted(alloc, out, b"want ", *ticket),
+        Act::Want { ticket, .. } => push_counted(alloc, out, "want ", *ticket),
         Act::Room { root, .. } => push_rooted(out, b"room ", root),
         Act::Land { root, .. } => push_rooted(out, b"land ", root),
         Act::Missed { root, .. } => push_rooted(out, b"miss ", root),
-        Act::GaveUp { ticket } => push_counted(alloc, out, b"give-up ", *ticket),
+        Act::GaveUp { ticket } => push_counted(alloc, out, "give-up ", *ticket),
     }
 }
 
@@ -70,8 +70,8 @@ fn push_answer(alloc: Global, out: &mut Vec<u8>, act: &Act) -> Result<(), AllocE
         Act::Boot { slot, .. } => out.extend_from_slice(slot_name(*slot)),
         Act::Begin { reply, .. } => push_begin(out, reply),
         Act::Want { reply, .. } => push_want(alloc, out, reply),
-        Act::Room { len, reply, .. } => push_made(alloc, out, b"made ", *len, reply),
-        Act::Land { len, reply, .. } => push_made(alloc, out, b"landed ", *len, reply),
+        Act::Room { len, reply, .. } => push_made(alloc, out, "made ", *len, reply),
+        Act::Land { len, reply, .. } => push_made(alloc, out, "landed ", *len, reply),
         Act::Missed { why, .. } => out.extend_from_slice(miss_name(*why)),
         Act::GaveUp { .. } => Ok(()),
     }
@@ -129,7 +129,7 @@ fn push_want(alloc: Global, out: &mut Vec<u8>, reply: &WantEnd) -> Result<(), Al
 fn push_made(
     alloc: Global,
     out: &mut Vec<u8>,
-    word: &[u8],
+    word: &str,
     len: u64,
     reply: &Option<FetchEnd>,
 ) -> Result<(), AllocError>
@@ -150,29 +150,25 @@ fn push_end(alloc: Global, out: &mut Vec<u8>, end: &FetchEnd) -> Result<(), Allo
     match end {
         FetchEnd::Absent => out.extend_from_slice(b"absent"),
         FetchEnd::Read => out.extend_from_slice(b"read"),
-        FetchEnd::Short { have } => push_counted(alloc, out, b"short ", *have),
-        FetchEnd::Long { len } => push_counted(alloc, out, b"long ", *len),
+        FetchEnd::Short { have } => push_counted(alloc, out, "short ", *have),
+        FetchEnd::Long { len } => push_counted(alloc, out, "long ", *len),
         FetchEnd::Wrong { got } => push_rooted(out, b"wrong ", got),
-        FetchEnd::TooLarge { len } => push_counted(alloc, out, b"too-large ", *len),
+        FetchEnd::TooLarge { len } => push_counted(alloc, out, "too-large ", *len),
         FetchEnd::NoNode => out.extend_from_slice(b"no-node"),
         FetchEnd::NoSpace { need, free } => {
-            push_counted(alloc, out, b"no-space ", u64::from(*need))?;
-            push_counted(alloc, out, b" ", u64::from(*free))
+            push_counted(alloc, out, "no-space ", u64::from(*need))?;
+            push_counted(alloc, out, " ", u64::from(*free))
         }
     }
 }
 
 // A word, and a number behind it.
-fn push_counted(
-    alloc: Global,
-    out: &mut Vec<u8>,
-    word: &[u8],
-    number: u64,
-) -> Result<(), AllocError>
+fn push_counted(alloc: Global, out: &mut Vec<u8>, word: &str, number: u64) -> Result<(), AllocError>
     ensures { OnOk result (out.new.items ≡ out.old.items ++ (word.now ++ decimal number)) }
 {
-    out.extend_from_slice(word)?;
-    push_number(alloc, out, number)
+    let mut line = String::new(alloc);
+    write!(line, "{word}{number}")?;
+    out.extend_from_slice(line.as_bytes())
 }
 
 // A word, and a root behind it.
@@ -192,11 +188,4 @@ fn push_path(out: &mut Vec<u8>, path: &PackagePath) -> Result<(), AllocError>
     out.extend_from_slice(path.name())?;
     out.extend_from_slice(b"/")?;
     out.extend_from_slice(path.variant())
-}
-
-fn push_number(alloc: Global, out: &mut Vec<u8>, number: u64) -> Result<(), AllocError>
-    ensures { OnOk result (out.new.items ≡ out.old.items ++ decimal number) }
-{
-    let digits = number.to_string(alloc)?;
-    out.extend_from_slice(digits.as_bytes())
 }

@@ -88,6 +88,7 @@ pub fn run<R: FirstRepo, S: Source, W: Sink>(
     ensures sink_fault { result.status ≡ Status.SinkFault → Rose (W.faults out.old) (W.faults out.new) }
     ensures unread { result.status ≡ Status.BadWords → script.new ≡ script.old }
     ensures unasked { IsRefusal result.status → result.repo ≡ repo }
+    ensures unopened { result.history.items ≡ [] → result.repo ≡ repo }
     ensures unwritten { IsRefusal result.status → out.new ≡ out.old }
     ensures leaves { Leaves result.status (S.left script.old) result.starved result.history.items }
     ensures legal { IsLegal bare result.history.items }
@@ -188,6 +189,7 @@ fn serve_all<R: FirstRepo>(alloc: Global, repo: &mut R, requests: &[Request]) ->
     ensures legal { IsLegal bare result.0.items }
     ensures served { ServesTo result.1 requests.now result.0.items }
     ensures empty { result.0.items ≡ [] → result.1 ≡ true }
+    ensures unasked { result.0.items ≡ [] → repo.new ≡ repo.old }
     ensures fetches { Fetches (R.files repo.old) (R.faults repo.old) (R.faults repo.new) result.0.items }
     ensures files { R.files repo.new ≡ R.files repo.old }
 {

@@ -176,7 +176,8 @@ fn is_name_byte(c: u8) -> bool
 // The path and the root of a pinned package's URL.
 fn pinned_of(alloc: Global, url: &[u8]) -> Result<(PackagePath, Root), LineFault>
     ensures pinned { IfOk result (λ p. IsPinnedUrl url.now p.0 p.1) }
-    ensures bad { IsErrOf result LineFault.Bad → (path : NameAndVariant) (root : RootOf) → ¬ IsPinnedUrl url.now path root }
+    ensures bad { IsErrOf result LineFault.Bad → (path : NameAndVariant) (root : RootOf)
+        → ¬ IsPinnedUrl url.now path root }
 {
     let Some((written, digits)) = parts_of(url) else {
         return Err(LineFault::Bad);

@@ -27,7 +27,8 @@ pub(crate) fn serve<R: FirstRepo>(
     ensures held { store.new.held ≡ Nothing }
     ensures ok { OnOk result (Serves request.now Rest Rest store.old.history store.new.history) }
     ensures err { OnErr result (ServesFrontOf request.now store.old.history store.new.history) }
-    ensures fetches { FetchesOn (R.files repo.old) (R.faults repo.old) (R.faults repo.new) store.old.history store.new.history }
+    ensures fetches { FetchesOn (R.files repo.old) (R.faults repo.old)
+        (R.faults repo.new) store.old.history store.new.history }
     ensures files { R.files repo.new ≡ R.files repo.old }
 {
     store.begin(&request.path, request.root)?;
@@ -38,9 +39,12 @@ pub(crate) fn serve<R: FirstRepo>(
 fn arrive<R: FirstRepo>(alloc: Global, store: &mut Store, repo: &mut R) -> Result<(), AllocError>
     requires { IsTicket store.old.held }
     ensures held { store.new.held ≡ Nothing }
-    ensures ok { OnOk result ((request : RequestOf) → Serves request (point_of store.old.held) Rest store.old.history store.new.history) }
-    ensures err { OnErr result ((request : RequestOf) → Serves request (point_of store.old.held) Cut store.old.history store.new.history) }
-    ensures fetches { FetchesOn (R.files repo.old) (R.faults repo.old) (R.faults repo.new) store.old.history store.new.history }
+    ensures ok { OnOk result ((request : RequestOf) → Serves request
+        (point_of store.old.held) Rest store.old.history store.new.history) }
+    ensures err { OnErr result ((request : RequestOf) → Serves request
+        (point_of store.old.held) Cut store.old.history store.new.history) }
+    ensures fetches { FetchesOn (R.files repo.old) (R.faults repo.old)
+        (R.faults repo.new) store.old.history store.new.history }
     ensures files { R.files repo.new ≡ R.files repo.old }
 {
     loop {
@@ -69,10 +73,13 @@ fn fetch<R: FirstRepo>(
     requires root { root.now ≡ root_of store.old.held }
     ensures ticket { OnOk result (IsTicket store.new.held) }
     ensures decided { OnOk result (is_decided store.new ≡ true) }
-    ensures ok { OnOk result ((request : RequestOf) → Serves request (point_of store.old.held) (point_of store.new.held) store.old.history store.new.history) }
+    ensures ok { OnOk result ((request : RequestOf) → Serves request (point_of store.old.held)
+        (point_of store.new.held) store.old.history store.new.history) }
     ensures held { OnErr result (store.new.held ≡ Nothing) }
-    ensures err { OnErr result ((request : RequestOf) → Serves request (point_of store.old.held) Cut store.old.history store.new.history) }
-    ensures fetches { FetchesOn (R.files repo.old) (R.faults repo.old) (R.faults repo.new) store.old.history store.new.history }
+    ensures err { OnErr result ((request : RequestOf) → Serves request
+        (point_of store.old.held) Cut store.old.history store.new.history) }
+    ensures fetches { FetchesOn (R.files repo.old) (R.faults repo.old)
+        (R.faults repo.new) store.old.history store.new.history }
     ensures files { R.files repo.new ≡ R.files repo.old }
 {
     match repo.file(alloc, root) {
@@ -98,10 +105,13 @@ fn keep(store: &mut Store, bytes: Bytes) -> Result<(), AllocError>
     requires short { length bytes ≤ FILE_LIMIT }
     ensures ticket { OnOk result (IsTicket store.new.held) }
     ensures decided { OnOk result (is_decided store.new ≡ true) }
-    ensures ok { OnOk result ((request : RequestOf) → Serves request (point_of store.old.held) (point_of store.new.held) store.old.history store.new.history) }
+    ensures ok { OnOk result ((request : RequestOf) → Serves request (point_of store.old.held)
+        (point_of store.new.held) store.old.history store.new.history) }
     ensures held { OnErr result (store.new.held ≡ Nothing) }
-    ensures err { OnErr result ((request : RequestOf) → Serves request (point_of store.old.held) Cut store.old.history store.new.history) }
-    ensures fetches { (files : Option (List File)) (before after : ℕ) → before ≤ after → IfSome files (λ all. file_at all (root_of store.old.held) ≡ Some bytes)
+    ensures err { OnErr result ((request : RequestOf) → Serves request
+        (point_of store.old.held) Cut store.old.history store.new.history) }
+    ensures fetches { (files : Option (List File)) (before after : ℕ) → before ≤ after → IfSome files
+        (λ all. file_at all (root_of store.old.held) ≡ Some bytes)
         → FetchesOn files before after store.old.history store.new.history }
 {
     if let Err(e) = store.room(bytes.as_slice().len() as u64) {
@@ -119,8 +129,10 @@ fn keep(store: &mut Store, bytes: Bytes) -> Result<(), AllocError>
 fn leave(store: &mut Store)
     requires { IsClaim store.old.held }
     ensures held { store.new.held ≡ Nothing }
-    ensures serves { (request : RequestOf) → Serves request (point_of store.old.held) Cut store.old.history store.new.history }
-    ensures fetches { (files : Option (List File)) (before after : ℕ) → before ≤ after → FetchesOn files before after store.old.history store.new.history }
+    ensures serves { (request : RequestOf) → Serves request
+        (point_of store.old.held) Cut store.old.history store.new.history }
+    ensures fetches { (files : Option (List File)) (before after : ℕ) → before ≤ after
+        → FetchesOn files before after store.old.history store.new.history }
 {
     store.miss(Miss::Memory);
     store.give_up();

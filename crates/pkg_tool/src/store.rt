@@ -10,7 +10,7 @@ ghost use Rattle.store_model.specs.State.{bare};
 ghost use Rattle.store_model.specs.History.{IsLegal};
 ghost use Rattle.pkg_tool.specs.Fetching.{Lands, landed_seen};
 ghost use Rattle.pkg_tool.specs.Holding.{Makes, held_after_want, mark_of as marked_by, ticket_of, root_of as root_of_held, len_of, IsTicket, IsClaim, IsRoomless, IfFetch, is_decided};
-ghost use Rattle.pkg_tool.specs.Mirrors.{blob_at, looks, missing_of};
+ghost use Rattle.pkg_tool.specs.Mirrors.{blob_at, looked_blobs, missing_of};
 
 use crate::history::History;
 use abr_record::Slot;
@@ -68,7 +68,8 @@ impl Model for Store {
 impl Store {
     /// An empty store, booted.
     pub(crate) fn open(alloc: Global) -> Result<Store, AllocError>
-        ensures history { IfOk result (λ store. store.history ≡ record { lane = 0; act = acts.Boot slots.A []; broke = false } ∷ []) }
+        ensures history { IfOk result (λ store. store.history
+            ≡ record { lane = 0; act = acts.Boot slots.A []; broke = false } ∷ []) }
         ensures held { IfOk result (λ store. store.held ≡ Held.Nothing) }
     {
         let mut history = History::new(alloc);
@@ -94,7 +95,8 @@ impl Store {
     pub(crate) fn begin(&mut self, path: &PackagePath, root: Root) -> Result<(), AllocError>
         requires { self.old.held ≡ Held.Nothing }
         ensures ok { OnOk result ((seen : List LookedAtOf) × Makes self.old
-            (acts.Begin path.now (Pinned root) (begins.Ticket root) seen) (Held.Ticket (length self.old.history + 1) root None) self.new) }
+            (acts.Begin path.now (Pinned root) (begins.Ticket root) seen)
+            (Held.Ticket (length self.old.history + 1) root None) self.new) }
         ensures err { OnErr result (self.new ≡ self.old) }
     {
         let path = path.try_copy(self.alloc)?;
@@ -120,7 +122,8 @@ impl Store {
         requires { IsTicket self.old.held }
         ensures ok { IfOk result (λ reply. Makes self.old (acts.Want (ticket_of self.old.held) reply)
             (held_after_want (ticket_of self.old.held) reply) self.new) }
-        ensures fetch { IfOk result (λ reply. IfFetch reply (λ root. (root ≡ root_of_held self.old.held) × (is_decided self.old ≡ false))) }
+        ensures fetch { IfOk result (λ reply. IfFetch reply
+            (λ root. (root ≡ root_of_held self.old.held) × (is_decided self.old ≡ false))) }
         ensures err { OnErr result (self.new ≡ self.old) }
     {
         let Held::Ticket { ticket, root, mark } = self.held else {
@@ -327,7 +330,7 @@ fn look(
     opened: &[Root],
     root: &Root,
 ) -> Result<Looked, AllocError>
-    ensures { IfOk result (λ seen. seen ≡ looks blobs.now opened.now root.now) }
+    ensures { IfOk result (λ seen. seen ≡ looked_blobs blobs.now opened.now root.now) }
 {
     if opened.contains(root) {
         return Ok(Looked::make(Vec::new(alloc)));

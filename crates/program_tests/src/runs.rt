@@ -11,25 +11,37 @@ fn outcomes(rt: HostRuntime) -> Result<(), Fail> {
         (
             b"1 resolve x fuchsia-pkg://fuchsia.com/example?hash=H".as_slice(),
             0u64,
-            b"2 1 begin example/0 ticket H\n3 1 want 2 fetch H\n4 1 room H made 2\n5 1 land H landed 2\n6 1 want 2 opened\n".as_slice(),
+            b"2 1 begin example/0 ticket H\n3 1 want 2 fetch H\n4 1 room H made 2\n\
+              5 1 land H landed 2\n6 1 want 2 opened\n"
+                .as_slice(),
             0u64,
         ),
         (
-            b"# one package, twice\n\n1 resolve a fuchsia-pkg://fuchsia.com/example?hash=M\n1 resolve b fuchsia-pkg://fuchsia.com/other/1?hash=M\n",
+            b"# one package, twice\n\n1 resolve a fuchsia-pkg://fuchsia.com/example?hash=M\n\
+              1 resolve b fuchsia-pkg://fuchsia.com/other/1?hash=M\n",
             0,
-            b"2 1 begin example/0 ticket M\n3 1 want 2 fetch M\n4 1 room M made 12288\n5 1 land M landed 12288\n6 1 want 2 opened\n7 1 begin other/1 ticket M\n8 1 want 7 opened\n",
-            0,
-        ),
-        (
-            b"1 resolve a fuchsia-pkg://fuchsia.com/example?hash=M\n1 resolve a fuchsia-pkg://fuchsia.com/other/1?hash=G\n",
-            0,
-            b"2 1 begin example/0 ticket M\n3 1 want 2 fetch M\n4 1 room M made 12288\n5 1 land M landed 12288\n6 1 want 2 opened\n7 1 begin other/1 ticket G\n8 1 want 7 fetch G\n9 1 room G made 12288\n10 1 land G landed 12288\n11 1 want 7 opened\n",
+            b"2 1 begin example/0 ticket M\n3 1 want 2 fetch M\n4 1 room M made 12288\n\
+              5 1 land M landed 12288\n6 1 want 2 opened\n7 1 begin other/1 ticket M\n\
+              8 1 want 7 opened\n",
             0,
         ),
         (
-            b"1 resolve a fuchsia-pkg://fuchsia.com/example?hash=M\n1 resolve b fuchsia-pkg://fuchsia.com/other/1?hash=G\n",
+            b"1 resolve a fuchsia-pkg://fuchsia.com/example?hash=M\n\
+              1 resolve a fuchsia-pkg://fuchsia.com/other/1?hash=G\n",
+            0,
+            b"2 1 begin example/0 ticket M\n3 1 want 2 fetch M\n4 1 room M made 12288\n\
+              5 1 land M landed 12288\n6 1 want 2 opened\n7 1 begin other/1 ticket G\n\
+              8 1 want 7 fetch G\n9 1 room G made 12288\n10 1 land G landed 12288\n\
+              11 1 want 7 opened\n",
+            0,
+        ),
+        (
+            b"1 resolve a fuchsia-pkg://fuchsia.com/example?hash=M\n\
+              1 resolve b fuchsia-pkg://fuchsia.com/other/1?hash=G\n",
             1,
-            b"2 1 begin example/0 ticket M\n3 1 want 2 fetch M\n4 1 miss M read\n5 1 want 2 failed read\n6 1 begin other/1 ticket G\n7 1 want 6 fetch G\n8 1 room G made 12288\n9 1 land G landed 12288\n10 1 want 6 opened\n",
+            b"2 1 begin example/0 ticket M\n3 1 want 2 fetch M\n4 1 miss M read\n\
+              5 1 want 2 failed read\n6 1 begin other/1 ticket G\n7 1 want 6 fetch G\n\
+              8 1 room G made 12288\n9 1 land G landed 12288\n10 1 want 6 opened\n",
             1,
         ),
         (b"", 0, b"", 0),
@@ -57,11 +69,14 @@ fn files_that_do_not_land(rt: HostRuntime) -> Result<(), Fail> {
     for (digits, text) in [
         (
             EIGHTS,
-            b"1 0 boot A\n2 1 begin example/0 ticket M\n3 1 want 2 fetch M\n4 1 miss M absent\n5 1 want 2 failed absent\n".as_slice(),
+            b"1 0 boot A\n2 1 begin example/0 ticket M\n3 1 want 2 fetch M\n\
+              4 1 miss M absent\n5 1 want 2 failed absent\n"
+                .as_slice(),
         ),
         (
             SEVENS,
-            b"1 0 boot A\n2 1 begin example/0 ticket M\n3 1 want 2 fetch M\n4 1 room M made 12288\n5 1 land M ended wrong G\n6 1 want 2 failed wrong G\n",
+            b"1 0 boot A\n2 1 begin example/0 ticket M\n3 1 want 2 fetch M\n\
+              4 1 room M made 12288\n5 1 land M ended wrong G\n6 1 want 2 failed wrong G\n",
         ),
     ] {
         let mut shelf = Vec::new(rt.alloc());
@@ -80,16 +95,22 @@ fn files_that_do_not_land(rt: HostRuntime) -> Result<(), Fail> {
 // one is begun, and the whole text is printed.
 #[test]
 fn want_of_memory(rt: HostRuntime) -> Result<(), Fail> {
-    let script =
-        b"1 resolve a fuchsia-pkg://fuchsia.com/example?hash=M\n1 resolve b fuchsia-pkg://fuchsia.com/other/1?hash=G\n1 resolve c fuchsia-pkg://fuchsia.com/more?hash=H\n";
+    let script = b"1 resolve a fuchsia-pkg://fuchsia.com/example?hash=M\n\
+          1 resolve b fuchsia-pkg://fuchsia.com/other/1?hash=G\n\
+          1 resolve c fuchsia-pkg://fuchsia.com/more?hash=H\n";
     for (starving, text) in [
         (
             1u64,
-            b"1 0 boot A\n2 1 begin example/0 ticket M\n3 1 want 2 fetch M\n4 1 miss M memory\n5 1 give-up 2\n".as_slice(),
+            b"1 0 boot A\n2 1 begin example/0 ticket M\n3 1 want 2 fetch M\n\
+              4 1 miss M memory\n5 1 give-up 2\n"
+                .as_slice(),
         ),
         (
             2,
-            b"1 0 boot A\n2 1 begin example/0 ticket M\n3 1 want 2 fetch M\n4 1 room M made 12288\n5 1 land M landed 12288\n6 1 want 2 opened\n7 1 begin other/1 ticket G\n8 1 want 7 fetch G\n9 1 miss G memory\n10 1 give-up 7\n",
+            b"1 0 boot A\n2 1 begin example/0 ticket M\n3 1 want 2 fetch M\n\
+              4 1 room M made 12288\n5 1 land M landed 12288\n6 1 want 2 opened\n\
+              7 1 begin other/1 ticket G\n8 1 want 7 fetch G\n9 1 miss G memory\n\
+              10 1 give-up 7\n",
         ),
     ] {
         let repo = MemRepo::make(

@@ -2,7 +2,7 @@ use Rattle.std.proofs.Common.{ℕ, ◌+◌, length, ap, ◌∙◌, arith}
 use Rattle.store_model.specs.declared.events.Act.TheVariants.{Missed, GaveUp}
 use Rattle.store_model.specs.declared.events.Miss.TheVariants.{Memory}
 use Rattle.pkg_tool.specs.Holding.{ticket_of, root_of, point_of}
-use Rattle.pkg_tool.specs.Serving.{goes}
+use Rattle.pkg_tool.specs.Serving.{next_point}
 use Rattle.pkg_tool.specs.Serving.Point.{Giving, Cut}
 use Rattle.pkg_tool.proofs.Going.{serves, serves_then, goes_missed, goes_left, fetches, fetches_then, free, rose_none}
 use Rattle.pkg_tool.proofs.serve.leave.Goals as goal
@@ -12,7 +12,7 @@ returns-clause-serves c = λ request.
     let held = c.args.store.now.held in
     serves_then request (point_of held) (Giving (ticket_of held)) Cut _ _ _ tt
     (serves request _ _ _ _ (Missed (root_of held) Memory) c.miss.ensures.made.0 (goes_missed request held _ Memory c.requires))
-    (serves request _ _ _ _ _ c.give_up.ensures.made.0 (ap (λ (t : ℕ). goes request (Giving (ticket_of held)) (length c.miss.new.self.history + 1) (GaveUp t)) (ap ticket_of c.miss.ensures.made.1) ∙ goes_left request (ticket_of held) (length c.miss.new.self.history + 1)))
+    (serves request _ _ _ _ _ c.give_up.ensures.made.0 (ap (λ (t : ℕ). next_point request (Giving (ticket_of held)) (length c.miss.new.self.history + 1) (GaveUp t)) (ap ticket_of c.miss.ensures.made.1) ∙ goes_left request (ticket_of held) (length c.miss.new.self.history + 1)))
 
 pub returns-clause-fetches : goal.returns-clause-fetches
 returns-clause-fetches c = λ files before after within.
