@@ -16,6 +16,6 @@ ending_of ScriptFault openings.NoMemory = Ran NoMemory
 ending_of status opening = Ran status
 
 -- the number of the status, or 1 where the script could not be opened
-abbrev pub exit_status : Ending → ℕ
-exit_status (Ran status) = number_of status
-exit_status CannotOpen = 1
+abbrev pub number_of_ending : Ending → ℕ
+number_of_ending (Ran status) = number_of status
+number_of_ending CannotOpen = 1

@@ -1,11 +1,12 @@
 //! A repository in a folder of the host.
 
-ghost use Rattle.std.specs.Prelude.{◌≡◌, ◌↔◌, ◌++◌, ◌≤◌, length, codes, IfOk, IfSome};
+ghost use Rattle.std.specs.Prelude.{◌≡◌, ◌↔◌, ◌≤◌, ℕ, List, Option, None, Some, length, IfOk, IfSome, IsErrOf};
 ghost use Rattle.std.specs.String.{string_bytes};
-ghost use Rattle.pkg_names.specs.Root.{root_text};
+ghost use Rattle.pkg_names.specs.Streams.{Rose};
 ghost use Rattle.pkg_tool.specs.Replies.{IfFound};
-ghost use Rattle.pkg_main.specs.Found.{found_within};
+ghost use Rattle.pkg_main.specs.Found.{HasAt, Opens, found_within, blob_name as name_of_blob};
 
+use crate::names::Names;
 use pkg_names::{Bytes, Root};
 use pkg_tool::{FILE_LIMIT, FileReply, FirstRepo};
 use std::alloc::{AllocError, Global};
@@ -13,36 +14,92 @@ use std::fs;
 use std::io::{ErrorKind, Read};
 use std::rt::Files;
 
+/// Regular files that are opened by their names.
+pub(crate) trait BlobFiles {
+    type File: Read + Drop;
+
+    /// What the file of each name holds, if there is one, where that is told.
+    ghost files: { Self → Option (List ℕ → Option (List ℕ)) };
+
+    fn open(&self, name: &str) -> Result<Self::File, ErrorKind>
+        ensures opened { IfOk result (λ file. Opens (files self.now) name.now (Self.File.Read.remaining file)) }
+        ensures missing { IsErrOf result ErrorKind.NotFound → HasAt (files self.now) name.now None };
+}
+
+/// The host's regular files. It doesn't tell what they hold.
+#[derive(Clone, Copy)]
+pub(crate) struct HostFiles<'a, R: Files> {
+    files: &'a R,
+}
+
+impl<'a, R: Files> HostFiles<'a, R> {
+    pub(crate) fn attach(files: &'a R) -> HostFiles<'a, R> {
+        HostFiles { files }
+    }
+}
+
+impl<R: Files> BlobFiles for HostFiles<'_, R> {
+    type File = R::File;
+
+    ghost files = { λ _. None };
+
+    // A name that is no regular file, as a folder or a pipe, is not opened.
+    fn open(&self, name: &str) -> Result<R::File, ErrorKind> {
+        match fs::metadata(self.files, name) {
+            Ok(metadata) if metadata.is_file() => {
+                fs::open(self.files, name).map_err(|e| e.kind())
+            }
+            Ok(_) => Err(ErrorKind::InvalidInput),
+            Err(e) => Err(e.kind()),
+        }
+    }
+}
+
 /// A folder whose file `blobs/<root>` is the blob of that root.
 ///
-/// It doesn't tell its files. It fails where a file is longer than [`FILE_LIMIT`] bytes, can't be
-/// opened though it is there, or can't be read to its end.
+/// It doesn't tell its files. It fails where a file is longer than [`FILE_LIMIT`] bytes, is no regular
+/// file, can't be opened though it is there, or can't be read to its end.
 #[derive(Drop)]
-pub(crate) struct FolderRepo<'a, R: Files> {
-    files: &'a R,
+pub(crate) struct FolderRepo<'a, B: BlobFiles + Drop> {
+    files: B,
     folder: &'a str,
     faults: u64,
 }
 
-impl<'a, R: Files> FolderRepo<'a, R> {
-    pub(crate) fn attach(files: &'a R, folder: &'a str) -> FolderRepo<'a, R> {
+impl<'a, B: BlobFiles + Drop> FolderRepo<'a, B> {
+    /// The folder that the words name as the repository.
+    pub(crate) fn of(files: B, names: &Names<'a>) -> FolderRepo<'a, B>
+        ensures folder { result.folder.now ≡ names.now.repo.now }
+        ensures files { result.files ≡ files }
+    {
         FolderRepo {
             files,
-            folder,
+            folder: names.repo,
             faults: 0,
         }
     }
 }
 
-impl<R: Files> FirstRepo for FolderRepo<'_, R> {
-    ghost use Rattle.std.specs.Prelude.{None};
-
+impl<B: BlobFiles + Drop> FirstRepo for FolderRepo<'_, B> {
     ghost files = { λ _. None };
 
     ghost faults = { λ r. r.faults };
 
-    fn file(&mut self, alloc: Global, root: &Root) -> FileReply {
-        let reply = read_blob(self.files, alloc, self.folder, root);
+    fn file(&mut self, alloc: Global, root: &Root) -> FileReply
+        // Files that aren't told are any.
+        ensures found { IfFound result (λ _. Unit {0}) }
+        ensures absent { result ≡ FileReply.Absent → Unit {0} }
+        ensures within { IfFound result (λ bytes. length bytes ≤ FILE_LIMIT) }
+        ensures cause { result ≡ FileReply.Failed → Rose self.old.faults self.new.faults }
+        ensures faults { self.old.faults ≤ self.new.faults }
+
+        // What is found is what the file of this root holds, and none is absent that is there.
+        ensures whole { IfFound result (λ bytes.
+            HasAt (B.files self.old.files) (name_of_blob self.old.folder.now root.now) (Some bytes)) }
+        ensures missing { result ≡ FileReply.Absent →
+            HasAt (B.files self.old.files) (name_of_blob self.old.folder.now root.now) None }
+    {
+        let reply = read_blob(&self.files, alloc, self.folder, root);
         if let FileReply::Failed = reply {
             self.faults = self.faults.saturating_add(1);
         }
@@ -50,21 +107,25 @@ impl<R: Files> FirstRepo for FolderRepo<'_, R> {
     }
 }
 
-fn read_blob<R: Files>(files: &R, alloc: Global, folder: &str, root: &Root) -> FileReply
+fn read_blob<B: BlobFiles>(files: &B, alloc: Global, folder: &str, root: &Root) -> FileReply
     ensures within { IfFound result (λ bytes. length bytes ≤ FILE_LIMIT) }
+    ensures whole { IfFound result (λ bytes.
+        HasAt (B.files files.now) (name_of_blob folder.now root.now) (Some bytes)) }
+    ensures missing { result ≡ FileReply.Absent →
+        HasAt (B.files files.now) (name_of_blob folder.now root.now) None }
 {
     let Ok(name) = blob_name(alloc, folder, root) else {
         return FileReply::NoMemory;
     };
-    match fs::open(files, name.as_str()) {
+    match files.open(name.as_str()) {
         Ok(file) => read_whole(alloc, file),
-        Err(e) => reply_of(e.kind()),
+        Err(kind) => reply_of(kind),
     }
 }
 
 // `<folder>/blobs/<root>`.
 fn blob_name(alloc: Global, folder: &str, root: &Root) -> Result<String, AllocError>
-    ensures { IfOk result (λ name. string_bytes name ≡ folder.now ++ codes "/blobs/" ++ root_text root.now) }
+    ensures { IfOk result (λ name. string_bytes name ≡ name_of_blob folder.now root.now) }
 {
     let digits = hex::encode(alloc, root.0)?;
     let mut name = String::from_str(alloc, folder)?;

@@ -1,62 +1,86 @@
 //! The file of the script.
 
-use pkg_names::streams::{FileSource, Source, SourceFailed};
-use std::fs::File;
-use std::rt::Files;
-use std::{fs, io};
+ghost use Rattle.std.specs.Prelude.{◌≡◌, ◌≢◌, ℕ, Option, None, Some, OnOk, IfErr};
+ghost use Rattle.pkg_main.specs.declared.script_file.Opening.{Opening as OpeningOf};
+ghost use Rattle.pkg_main.specs.Openings.{opening_in, opening_or_fine};
 
-/// Whether the file could be opened, if it was to be.
+use crate::names::Names;
+use pkg_names::streams::{FileSource, Source, SourceFailed};
+use std::fs;
+use std::fs::File;
+use std::io::ErrorKind;
+use std::rt::Files;
+
+/// What the opening of the script came to.
 #[derive(Clone, Copy, Debug, PartialEq, Eq)]
 pub(crate) enum Opening {
+    /// It was opened, or was not to be.
     Fine,
     Missing,
     NoMemory,
 }
 
+/// A script that is opened when it is first read.
+pub(crate) trait Script: Source {
+    ghost opening: { Self → OpeningOf };
+
+    fn opening(&self) -> Opening
+        ensures { result ≡ opening self.now };
+}
+
+/// Opens the script, once.
+pub(crate) trait Opener {
+    type Opened: Source + Drop;
+
+    /// What the opening came to, if it was opened.
+    ghost tried: { Self → Option OpeningOf };
+
+    fn open(&mut self) -> Result<Self::Opened, Opening>
+        requires once { tried self.old ≡ None }
+        ensures ok { OnOk result (tried self.new ≡ Some Opening.Fine) }
+        ensures err { IfErr result (λ opening. (opening ≢ Opening.Fine) × (tried self.new ≡ Some opening)) };
+}
+
 #[derive(Drop)]
-enum State {
+pub(crate) enum State<S> {
     Unopened,
-    Open(FileSource),
+    Open(S),
     Failed(Opening),
 }
 
-/// A source over a file that is opened when it is first read. A file that can't be opened fails.
+/// A source that is opened when it is first read. One that can't be opened fails.
 #[derive(Drop)]
-pub(crate) struct ScriptFile<'a, R: Files<File = File>> {
-    files: &'a R,
-    name: &'a str,
-    state: State,
+pub(crate) struct ScriptFile<O: Opener + Drop> {
+    opener: O,
+    state: State<O::Opened>,
     faults: u64,
+    ghost tried: { O.tried opener ≡ opening_in state },
 }
 
-impl<'a, R: Files<File = File>> ScriptFile<'a, R> {
-    pub(crate) fn attach(files: &'a R, name: &'a str) -> ScriptFile<'a, R> {
+impl<O: Opener + Drop> ScriptFile<O> {
+    pub(crate) fn attach(opener: O) -> ScriptFile<O>
+        requires { O.tried opener ≡ None }
+        ensures { O.tried result.opener ≡ None }
+    {
         ScriptFile {
-            files,
-            name,
+            opener,
             state: State::Unopened,
             faults: 0,
         }
     }
-
-    pub(crate) fn opening(&self) -> Opening {
-        match self.state {
-            State::Failed(opening) => opening,
-            _ => Opening::Fine,
-        }
-    }
 }
 
-impl<R: Files<File = File>> Source for ScriptFile<'_, R> {
-    ghost use Rattle.std.specs.Prelude.{None};
-
+impl<O: Opener + Drop> Source for ScriptFile<O> {
     ghost left = { λ _. None };
 
     ghost faults = { λ s. s.faults };
 
     fn take(&mut self, out: &mut [u8]) -> Result<usize, SourceFailed> {
         if let State::Unopened = self.state {
-            self.state = open(self.files, self.name);
+            self.state = match self.opener.open() {
+                Ok(source) => State::Open(source),
+                Err(opening) => State::Failed(opening),
+            };
         }
         let taken = match &mut self.state {
             State::Open(source) => source.take(out),
@@ -69,10 +93,67 @@ impl<R: Files<File = File>> Source for ScriptFile<'_, R> {
     }
 }
 
-fn open<R: Files<File = File>>(files: &R, name: &str) -> State {
-    match fs::open(files, name) {
-        Ok(file) => State::Open(FileSource::attach(file)),
-        Err(e) if e.kind() == io::ErrorKind::OutOfMemory => State::Failed(Opening::NoMemory),
-        Err(_e) => State::Failed(Opening::Missing),
+impl<O: Opener + Drop> Script for ScriptFile<O> {
+    ghost opening = { λ s. opening_or_fine (O.tried s.opener) };
+
+    fn opening(&self) -> Opening {
+        match self.state {
+            State::Failed(opening) => opening,
+            _ => Opening::Fine,
+        }
+    }
+}
+
+/// Opens a file of the host.
+#[derive(Drop)]
+pub(crate) struct FileOpener<'a, R: Files<File = File>> {
+    files: &'a R,
+    name: &'a str,
+    tried: Option<Opening>,
+}
+
+impl<'a, R: Files<File = File>> FileOpener<'a, R> {
+    /// Opens what the words name as the script.
+    pub(crate) fn of(files: &'a R, names: &Names<'a>) -> FileOpener<'a, R>
+        ensures name { result.name.now ≡ names.now.script.now }
+        ensures tried { result.tried ≡ None }
+    {
+        FileOpener {
+            files,
+            name: names.script,
+            tried: None,
+        }
+    }
+}
+
+impl<R: Files<File = File>> Opener for FileOpener<'_, R> {
+    type Opened = FileSource;
+
+    ghost tried = { λ o. o.tried };
+
+    fn open(&mut self) -> Result<FileSource, Opening> {
+        match fs::open(self.files, self.name) {
+            Ok(file) => {
+                self.tried = Some(Opening::Fine);
+                Ok(FileSource::attach(file))
+            }
+            Err(e) => {
+                let opening = opening_of(e.kind());
+                self.tried = Some(opening);
+                Err(opening)
+            }
+        }
+    }
+}
+
+// What a file that can't be opened, for this reason, is to the program.
+fn opening_of(kind: ErrorKind) -> Opening
+    ensures memory { kind ≡ ErrorKind.OutOfMemory → result ≡ Opening.NoMemory }
+    ensures missing { kind ≢ ErrorKind.OutOfMemory → result ≡ Opening.Missing }
+    ensures failed { result ≢ Opening.Fine }
+{
+    match kind {
+        ErrorKind::OutOfMemory => Opening::NoMemory,
+        _ => Opening::Missing,
     }
 }
