@@ -1,7 +1,6 @@
 -- The lines on standard error.
-use Rattle.std.specs.Prelude.{ℕ, ◌==◌, ◌||◌, nat_lt, List, [], ◌∷◌, ◌++◌, map, codes, Option, unwrap_or, if◌then◌else◌}
+use Rattle.std.specs.Prelude.{ℕ, ◌==◌, ◌||◌, nat_lt, List, [], ◌++◌, map, codes, Option, unwrap_or, if◌then◌else◌}
 use Rattle.std.specs.Fmt.{decimal}
-use Rattle.pkg_tool.specs.declared.running.Status.{Status}
 use Rattle.pkg_tool.specs.declared.running.Status.TheVariants.{Done, BadWords, BadScript, ScriptFault, SinkFault, NoMemory}
 use Rattle.pkg_tool.specs.declared.script.TextFault.{TextFault}
 use Rattle.pkg_tool.specs.declared.script.TextFault.TheVariants.{TooLong, TooMany, NoRequest}

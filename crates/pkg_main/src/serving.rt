@@ -1,6 +1,6 @@
 //! A run of the program, over any repository, script, output and report.
 
-ghost use Rattle.std.specs.Prelude.{◌≡◌, ◌↔◌, ℕ, false, map, IfSome, IsSomeAnd, OnOk, IsErrOf};
+ghost use Rattle.std.specs.Prelude.{◌≡◌, ◌↔◌, ℕ, [], false, map, IfSome, IsSomeAnd, OnOk, IsErrOf};
 ghost use Rattle.std.specs.String.{string_bytes};
 ghost use Rattle.std.specs.Process.{exit_status};
 ghost use Rattle.pkg_names.specs.Streams.{Rose};
@@ -59,6 +59,7 @@ pub(crate) fn serve<R: FirstRepo, S: Script, W: Sink, E: Report>(
     ensures sink_fault { result.ended.status ≡ Status.SinkFault → Rose (W.faults out.old) (W.faults out.new) }
     ensures unread { result.ended.status ≡ Status.BadWords → script.new ≡ script.old }
     ensures unasked { IsRefusal result.ended.status → result.ended.repo ≡ repo }
+    ensures unopened { result.ended.history.items ≡ [] → result.ended.repo ≡ repo }
     ensures unwritten { IsRefusal result.ended.status → out.new ≡ out.old }
     ensures leaves { Leaves result.ended.status (S.left script.old) result.ended.starved result.ended.history.items }
     ensures legal { IsLegal bare result.ended.history.items }

@@ -1,4 +1,4 @@
-use Rattle.std.proofs.Common.{◌≡◌, ◌++◌, length, ℕ}
+use Rattle.std.proofs.Common.{◌≡◌, ◌++◌, length}
 use Rattle.pkg_main.specs.Lines.{shown}
 use Rattle.pkg_main.proofs.report.push_shown.Given as goal
 
