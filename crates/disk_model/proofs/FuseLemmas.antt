@@ -4,12 +4,12 @@ use Rattle.std.specs.List.{Contains}
 use Rattle.std.proofs.lemmas.Bool.{true≢false}
 use Rattle.std.proofs.lemmas.List.{drop-append-le}
 use Rattle.std.proofs.Math.Seq.{drop-length}
-use Rattle.disk_model.specs.declared.act.Act.{Act}
-use Rattle.disk_model.specs.declared.act.Act.TheVariants.{Wrote, Failed, Synced}
+use Rattle.disk_model.specs.declared.act.DiskAct.{DiskAct}
+use Rattle.disk_model.specs.declared.act.DiskAct.TheVariants.{Wrote, Failed, Synced}
 use Rattle.disk_model.specs.Past.{Page, Past, then_act}
 use Rattle.disk_model.specs.Disks.{Mem, Fuse, new_fuse, passed_count, IsSound, IsFuse, IsNextListed, one_more, after_call, after_fault, after_want, FailsWrite, ReadsMem, WritesMem, SyncsMem}
 
-passed_count-append : (xs ys : List Act) → passed_count (xs ++ ys) ≡ passed_count xs + passed_count ys
+passed_count-append : (xs ys : List DiskAct) → passed_count (xs ++ ys) ≡ passed_count xs + passed_count ys
 passed_count-append [] ys = omega arith
 passed_count-append (Wrote n bytes ∷ xs) ys = omega (arith, passed_count-append xs ys)
 passed_count-append (Failed n bytes ∷ xs) ys = passed_count-append xs ys
@@ -24,7 +24,7 @@ adds_none : (k : ℕ) (old new : Past) → new ≡ old → Adds k 0 old new
 adds_none k old new e =
     subst (Adds k 0 old) (sym e) (record { size = omega arith; count = λ _. omega arith })
 
-adds_act : (k : ℕ) (old new : Past) (act : Act) → new ≡ then_act old act → Adds k (passed_count (act ∷ [])) old new
+adds_act : (k : ℕ) (old new : Past) (act : DiskAct) → new ≡ then_act old act → Adds k (passed_count (act ∷ [])) old new
 adds_act k old new act e =
     subst (Adds k (passed_count (act ∷ [])) old) (sym e) (record {
       size = omega (arith, length-append old.trail (act ∷ []));

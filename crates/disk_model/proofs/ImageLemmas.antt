@@ -4,8 +4,8 @@ use Rattle.std.proofs.lemmas.Bool.{cases_lt, cases_eq}
 use Rattle.std.proofs.lemmas.List.{set-get_or, get_or-map, length-map}
 use Rattle.std.specs.List.{AllByRecursion}
 use Rattle.std.proofs.lemmas.List.Elements.{All-from_recursion, recursion_from_All, All-from_get_or}
-use Rattle.disk_model.specs.declared.act.Act.{Act}
-use Rattle.disk_model.specs.declared.act.Act.TheVariants.{Wrote, Failed, Synced}
+use Rattle.disk_model.specs.declared.act.DiskAct.{DiskAct}
+use Rattle.disk_model.specs.declared.act.DiskAct.TheVariants.{Wrote, Failed, Synced}
 use Rattle.disk_model.specs.Past.{Page, Pages, page_at, PageState, Past, IsPage, HasPage, IsPast, then_act, after_synced, after_act, after_acts, state_of, IsPossible, IsLatest}
 use Rattle.disk_model.specs.Images.{IsImage, IsLatestImage, contents_after, contents}
 use Rattle.disk_model.proofs.StateLemmas.{state_of-then_act, possible_wrote, possible_failed, came_synced, other_wrote, other_failed, same_wrote, same_failed, nothing}
@@ -116,7 +116,7 @@ image_of past n value lt p =
     (set now.0 n value, image_mix past now.0 n value now.1 p, get_or-set_same now.0 n value [] (omega (arith, now.1.size)))
 
 -- what stands on the pages is an image
-pub now_after : (n : ℕ) (acts : List Act) (s : PageState) (pages : Pages) → n < length pages → s.now ≡ page_at pages n → (after_acts n s acts).now ≡ page_at (contents_after acts pages) n
+pub now_after : (n : ℕ) (acts : List DiskAct) (s : PageState) (pages : Pages) → n < length pages → s.now ≡ page_at pages n → (after_acts n s acts).now ≡ page_at (contents_after acts pages) n
 now_after n [] s pages lt e = e
 now_after n (Wrote page bytes ∷ acts) s pages lt e =
     now_after n acts (after_act n s (Wrote page bytes)) (set pages page bytes) (omega (arith, lt, length-set pages page bytes))
@@ -135,7 +135,7 @@ now_after n (Synced ∷ acts) s pages lt e = now_after n acts (record s { older 
 pub now-contents : (past : Past) (n : ℕ) → n < length past.start → (state_of past n).now ≡ page_at (contents past) n
 now-contents past n lt = now_after n past.trail _ past.start lt refl
 
-pub length-contents_after : (acts : List Act) (pages : Pages) → length (contents_after acts pages) ≡ length pages
+pub length-contents_after : (acts : List DiskAct) (pages : Pages) → length (contents_after acts pages) ≡ length pages
 length-contents_after [] pages = refl
 length-contents_after (Wrote page bytes ∷ acts) pages = length-contents_after acts (set pages page bytes) ∙ length-set pages page bytes
 length-contents_after (Failed page bytes ∷ acts) pages = length-contents_after acts pages
@@ -160,12 +160,12 @@ synced_page past n value lt now none image is =
     ]
 
 -- what is possible at a page of a told past is a page
-page_after_act : (n : ℕ) (s : PageState) (x : Act) → HasPage x → ((v : Page) → IsPossible s v → IsPage v) → (v : Page) → IsPossible (after_act n s x) v → IsPage v
+page_after_act : (n : ℕ) (s : PageState) (x : DiskAct) → HasPage x → ((v : Page) → IsPossible s v → IsPage v) → (v : Page) → IsPossible (after_act n s x) v → IsPage v
 page_after_act n s (Wrote page bytes) is all v p = elim (possible_wrote n page s bytes v p) [ inl q ↦ all v q | inr e ↦ subst IsPage (sym e.1) is ]
 page_after_act n s (Failed page bytes) is all v p = elim (possible_failed n page s bytes v p) [ inl q ↦ all v q | inr e ↦ subst IsPage (sym e.1) is ]
 page_after_act n s Synced is all v p = all v (came_synced s v p)
 
-page_after_acts : (n : ℕ) (acts : List Act) (s : PageState) → AllByRecursion HasPage acts → ((v : Page) → IsPossible s v → IsPage v) → (v : Page) → IsPossible (after_acts n s acts) v → IsPage v
+page_after_acts : (n : ℕ) (acts : List DiskAct) (s : PageState) → AllByRecursion HasPage acts → ((v : Page) → IsPossible s v → IsPage v) → (v : Page) → IsPossible (after_acts n s acts) v → IsPage v
 page_after_acts n [] s are all v p = all v p
 page_after_acts n (x ∷ acts) s are all v p = page_after_acts n acts (after_act n s x) are.1 (page_after_act n s x are.0 all) v p
 

@@ -1,7 +1,7 @@
 -- Many pages that are written one after another, and settled by one sync.
 use Rattle.std.proofs.Common.{◌≡◌, ◌≢◌, ℕ, ◌+◌, ◌<◌, sym, subst, inl, inr, arith, Option, IfSome}
 use Rattle.std.proofs.lemmas.Bool.{cases_eq}
-use Rattle.disk_model.specs.declared.act.Act.TheVariants.{Wrote, Synced}
+use Rattle.disk_model.specs.declared.act.DiskAct.TheVariants.{Wrote, Synced}
 use Rattle.disk_model.specs.Past.{Page, page_at, Past, IsPast, with_act}
 use Rattle.disk_model.specs.Images.{EachImage, IsWritten, AllWritten, AllSettled, SettlesOthers, WritesOnly}
 use Rattle.disk_model.proofs.Moments.{Tried, Ended, written, written_write, written_sync, settled, each_all, at_end}

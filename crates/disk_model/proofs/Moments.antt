@@ -3,8 +3,8 @@
 use Rattle.std.proofs.Common.{◌≡◌, ◌≢◌, ◌⊎◌, ℕ, ◌+◌, ◌<◌, ◌≤◌, List, [], ◌∷◌, ◌++◌, length, take, set, sym, refl, ◌∙◌, ap, subst, inl, inr, arith, Option, Some, None, IfSome, append_assoc, append-nil, length-append, take_all, get_or-set_same, get_or-set_other}
 use Rattle.std.proofs.lemmas.Bool.{cases_lt}
 use Rattle.std.proofs.lemmas.List.{take-append-le}
-use Rattle.disk_model.specs.declared.act.Act.{Act}
-use Rattle.disk_model.specs.declared.act.Act.TheVariants.{Wrote, Failed, Synced}
+use Rattle.disk_model.specs.declared.act.DiskAct.{DiskAct}
+use Rattle.disk_model.specs.declared.act.DiskAct.TheVariants.{Wrote, Failed, Synced}
 use Rattle.disk_model.specs.Past.{Page, Pages, page_at, PageState, Past, IsPast, IsActIn, then_act, with_act, state_of, MayRead}
 use Rattle.disk_model.specs.Images.{IsImage, EachImage, SomeImage, IsSettled, IsWritten, moment, GoesOn, Both, Keeps, AtEach}
 use Rattle.disk_model.proofs.StateLemmas.{state_of-then_act, other_wrote, other_failed, same_wrote}
@@ -18,8 +18,8 @@ abbrev pub Ended : Option Past → Option Past → Type 0
 Ended old new = (new ≡ with_act old Synced) ⊎ (new ≡ old)
 
 -- The past with one act more, or the same.
-abbrev pub Stepped : (Act → Type 0) → Option Past → Option Past → Type 0
-Stepped A old new = (new ≡ old) ⊎ ((act : Act) × A act × (new ≡ with_act old act))
+abbrev pub Stepped : (DiskAct → Type 0) → Option Past → Option Past → Type 0
+Stepped A old new = (new ≡ old) ⊎ ((act : DiskAct) × A act × (new ≡ with_act old act))
 
 tried_step : (region : ℕ → Type 0) (page : ℕ) (bytes : Page) (old new : Option Past) → region page → Tried page bytes old new → Stepped (IsActIn region) old new
 tried_step region page bytes old new in_region (inl e) = inr (Wrote page bytes, in_region, e)
@@ -78,7 +78,7 @@ wrote_some (Some past) page bytes =
 pub written : (page : ℕ) (bytes : Page) (old new : Option Past) → new ≡ with_act old (Wrote page bytes) → IsWritten new page bytes
 written page bytes old new e = subst (λ told. IsWritten told page bytes) (sym e) (wrote_some old page bytes)
 
-stays_written : (n : ℕ) (value : Page) (old : Option Past) (act : Act) → ((past : Past) → (state_of (then_act past act) n).now ≡ (state_of past n).now) → ((past : Past) → (state_of (then_act past act) n).failed ≡ (state_of past n).failed) → IsWritten old n value → IsWritten (with_act old act) n value
+stays_written : (n : ℕ) (value : Page) (old : Option Past) (act : DiskAct) → ((past : Past) → (state_of (then_act past act) n).now ≡ (state_of past n).now) → ((past : Past) → (state_of (then_act past act) n).failed ≡ (state_of past n).failed) → IsWritten old n value → IsWritten (with_act old act) n value
 stays_written n value None act now none h = tt
 stays_written n value (Some past) act now none h = (now past ∙ h.0, none past ∙ h.1)
 
@@ -159,7 +159,7 @@ at_start P (Some past) h = record {
   each = λ count low high image is. h image (now P past count image low is);
 }
 
-act_more : (P : Pages → Type 0) (start old : Option Past) (act : Act) → AtEach start old P → EachImage (with_act old act) P → AtEach start (with_act old act) P
+act_more : (P : Pages → Type 0) (start old : Option Past) (act : DiskAct) → AtEach start old P → EachImage (with_act old act) P → AtEach start (with_act old act) P
 act_more P None None act at h = tt
 act_more P None (Some old) act at h = at
 act_more P (Some start) None act at h = at
@@ -169,7 +169,7 @@ act_more P (Some start) (Some old) act at h =
     record {
       goes_on = record {
         start = at.goes_on.start;
-        trail = (more.0 ++ act ∷ [], ap (λ (l : List Act). l ++ act ∷ []) more.1 ∙ append_assoc start.trail more.0 (act ∷ []));
+        trail = (more.0 ++ act ∷ [], ap (λ (l : List DiskAct). l ++ act ∷ []) more.1 ∙ append_assoc start.trail more.0 (act ∷ []));
       };
       each = λ count low high image is. elim (cases_lt count (length (old.trail ++ act ∷ []))) [
         | inl lt ↦ at.each count low (omega (arith, long)) image (subst (λ trail. IsImage (record old { trail = trail }) image) (take-append-le count old.trail (act ∷ []) (omega (arith, long))) is)
@@ -177,7 +177,7 @@ act_more P (Some start) (Some old) act at h =
       ];
     }
 
-step : (P : Pages → Type 0) (A : Act → Type 0) (start old new : Option Past) → AtEach start old P → Stepped A old new → EachImage new P → AtEach start new P
+step : (P : Pages → Type 0) (A : DiskAct → Type 0) (start old new : Option Past) → AtEach start old P → Stepped A old new → EachImage new P → AtEach start new P
 step P A start old new at (inl e) h = subst (λ told. AtEach start told P) (sym e) at
 step P A start old new at (inr s) h =
     subst (λ told. AtEach start told P) (sym s.2) (act_more P start old s.0 at (subst (λ told. EachImage told P) s.2 h))
@@ -233,12 +233,12 @@ at_then P (Some start) (Some mid) (Some new) at then =
     record {
       goes_on = record {
         start = then.goes_on.start ∙ at.goes_on.start;
-        trail = (more.0 ++ rest.0, rest.1 ∙ ap (λ (l : List Act). l ++ rest.0) more.1 ∙ append_assoc start.trail more.0 rest.0);
+        trail = (more.0 ++ rest.0, rest.1 ∙ ap (λ (l : List DiskAct). l ++ rest.0) more.1 ∙ append_assoc start.trail more.0 rest.0);
       };
       each = λ count low high image is. elim (cases_lt count (length mid.trail)) [
         | inl lt ↦ at.each count low (omega arith) image
             (let trails : take count new.trail ≡ take count mid.trail = ap (take count) rest.1 ∙ take-append-le count mid.trail rest.0 (omega arith) in
-            let same : moment new count ≡ moment mid count = ap (λ (s : Pages). record { start = s; trail = take count new.trail }) then.goes_on.start ∙ ap (λ (t : List Act). record { start = mid.start; trail = t }) trails in
+            let same : moment new count ≡ moment mid count = ap (λ (s : Pages). record { start = s; trail = take count new.trail }) then.goes_on.start ∙ ap (λ (t : List DiskAct). record { start = mid.start; trail = t }) trails in
             subst (λ past. IsImage past image) same is)
         | inr le ↦ then.each count le high image is
       ];
@@ -260,7 +260,7 @@ at_goes_on P (Some start) (Some new) at = at.goes_on
 pub at_moment : (P : Pages → Type 0) (start mid new : Past) → Keeps P start mid → GoesOn mid new → (count : ℕ) → length start.trail ≤ count → count ≤ length mid.trail → (image : Pages) → IsImage (moment new count) image → P image
 at_moment P start mid new keeps on count low high image is =
     let trails : take count new.trail ≡ take count mid.trail = ap (take count) on.trail.1 ∙ take-append-le count mid.trail on.trail.0 high in
-    let same : moment new count ≡ moment mid count = ap (λ (s : Pages). record { start = s; trail = take count new.trail }) on.start ∙ ap (λ (t : List Act). record { start = mid.start; trail = t }) trails in
+    let same : moment new count ≡ moment mid count = ap (λ (s : Pages). record { start = s; trail = take count new.trail }) on.start ∙ ap (λ (t : List DiskAct). record { start = mid.start; trail = t }) trails in
     keeps.each count low high image (subst (λ past. IsImage past image) same is)
 
 -- What holds at each moment of a run holds at those from any moment of it on.

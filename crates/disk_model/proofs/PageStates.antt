@@ -1,8 +1,8 @@
 -- What each act makes of the state of a page, and of the values that are possible there.
 use Rattle.std.proofs.Common.{◌≡◌, ◌≢◌, ◌⊎◌, ◌↔◌, ℕ, sym, ◌∙◌, subst, inl, inr}
 use Rattle.std.proofs.lemmas.Bool.{cases_eq}
-use Rattle.disk_model.specs.declared.act.Act.{Act}
-use Rattle.disk_model.specs.declared.act.Act.TheVariants.{Wrote, Failed, Synced}
+use Rattle.disk_model.specs.declared.act.DiskAct.{DiskAct}
+use Rattle.disk_model.specs.declared.act.DiskAct.TheVariants.{Wrote, Failed, Synced}
 use Rattle.disk_model.specs.Past.{Page, PageState, Past, then_act, after_wrote, after_failed, after_synced, state_of, IsPossible, IsLatest}
 use Rattle.disk_model.proofs.StateLemmas.{state_of-then_act, other_wrote, other_failed, same_wrote, same_failed, possible_wrote, possible_failed, stays_wrote, stays_failed, comes_failed}
 use Rattle.disk_model.proofs.ImageLemmas.{latest_synced, synced_latest}
@@ -25,7 +25,7 @@ state-failed_other past page n bytes ne = state_of-then_act past (Failed page by
 pub state-synced : (past : Past) (n : ℕ) → state_of (then_act past Synced) n ≡ after_synced (state_of past n)
 state-synced past n = state_of-then_act past Synced n
 
-same_page : (past : Past) (act : Act) (page n : ℕ) (bytes v : Page) (next : PageState → PageState) → (page ≢ n → state_of (then_act past act) n ≡ state_of past n) → (page ≡ n → state_of (then_act past act) n ≡ next (state_of past n)) → ((s : PageState) → IsPossible s v → IsPossible (next s) v) → ((s : PageState) → v ≡ bytes → IsPossible (next s) v) → IsPossible (state_of past n) v ⊎ ((page ≡ n) × (v ≡ bytes)) → IsPossible (state_of (then_act past act) n) v
+same_page : (past : Past) (act : DiskAct) (page n : ℕ) (bytes v : Page) (next : PageState → PageState) → (page ≢ n → state_of (then_act past act) n ≡ state_of past n) → (page ≡ n → state_of (then_act past act) n ≡ next (state_of past n)) → ((s : PageState) → IsPossible s v → IsPossible (next s) v) → ((s : PageState) → v ≡ bytes → IsPossible (next s) v) → IsPossible (state_of past n) v ⊎ ((page ≡ n) × (v ≡ bytes)) → IsPossible (state_of (then_act past act) n) v
 same_page past act page n bytes v next other here stays comes (inl p) =
     elim (cases_eq page n) [
       | inl e ↦ subst (λ (s : PageState). IsPossible s v) (sym (here e)) (stays (state_of past n) p)

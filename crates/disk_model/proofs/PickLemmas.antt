@@ -5,7 +5,7 @@ use Rattle.std.proofs.lemmas.List.{get_or_append_left, get_or_push, length_push}
 use Rattle.std.proofs.lemmas.List.Elements.{All-push, All-nil, All-cons}
 use Rattle.std.proofs.lemmas.List.Quantifiers.{all_pairs_push}
 use Rattle.std.proofs.lemmas.List.Sums.{sum_by-set}
-use Rattle.disk_model.specs.declared.act.Act.{Act}
+use Rattle.disk_model.specs.declared.act.DiskAct.{DiskAct}
 use Rattle.disk_model.specs.declared.power_loss.Pick.{Pick}
 use Rattle.disk_model.specs.Past.{Page, Pages, page_at, PageState, Past, after_acts, state_of, IsPossible}
 use Rattle.disk_model.specs.Images.{IsImage, contents_after}
@@ -21,17 +21,17 @@ pub record Marks (picks : List Pick) (marks : List Bool) : Type 0 where
   pub unmarked : (n : ℕ) → get_or marks n false ≡ false → All (λ pick. pick.page ≢ n) picks
 
 -- the page of a pick, which had no mark, gets its value and a mark
-pub record Puts (trail : List Act) (pick : Pick) (old : Pages) (marks : List Bool)
+pub record Puts (trail : List DiskAct) (pick : Pick) (old : Pages) (marks : List Bool)
     (new : Pages) (new_marks : List Bool) : Type 0 where
   pub inside : pick.page < length old
   pub free : get_or marks pick.page false ≡ false
   pub value : (bytes : Page) × (pick_value trail pick ≡ Some bytes) × (new ≡ set old pick.page bytes)
   pub mark : new_marks ≡ set marks pick.page true
 
-pub good_none : (trail : List Act) → AreGood trail []
+pub good_none : (trail : List DiskAct) → AreGood trail []
 good_none trail = record { each = All-nil (λ pick. IsSome (pick_value trail pick)); apart = λ i j d lt le. absurd (omega (arith, le)) }
 
-pub takes_none : (trail : List Act) (pages : Pages) → Takes trail [] pages pages
+pub takes_none : (trail : List DiskAct) (pages : Pages) → Takes trail [] pages pages
 takes_none trail pages = record { size = refl; picked = All-nil (λ pick. pick_value trail pick ≡ Some (page_at pages pick.page)); others = λ n _. refl }
 
 none_marked : (count : ℕ) → count_by (λ b. b) (replicate count false) ≡ 0
@@ -50,7 +50,7 @@ marks_none count = record {
   unmarked = λ n is. All-nil (λ (pick : Pick). pick.page ≢ n);
 }
 
-module _ (trail : List Act) (picks : List Pick) (pick : Pick) (first old new : Pages) (marks new_marks : List Bool) (good : AreGood trail picks) (takes : Takes trail picks first old) (marked : Marks picks marks) where
+module _ (trail : List DiskAct) (picks : List Pick) (pick : Pick) (first old new : Pages) (marks new_marks : List Bool) (good : AreGood trail picks) (takes : Takes trail picks first old) (marked : Marks picks marks) where
   pub good_more : Puts trail pick old marks new new_marks → AreGood trail (picks ++ pick ∷ [])
   good_more puts = record {
     each = All-push (λ p. IsSome (pick_value trail p)) picks pick good.each (subst (λ (o : Option Page). IsSome o) (sym puts.value.1) refl);
@@ -165,7 +165,7 @@ takes_image past picks new takes = record {
 }
 
 -- the same, where start and trail are known by equations
-pub takes_image_at : (start from : Pages) (trail acts : List Act) (picks : List Pick) (new : Pages) → from ≡ start → acts ≡ trail → Takes acts picks (contents_after (take (synced_len acts) acts) from) new → IsImage (record { start = start; trail = trail }) new
+pub takes_image_at : (start from : Pages) (trail acts : List DiskAct) (picks : List Pick) (new : Pages) → from ≡ start → acts ≡ trail → Takes acts picks (contents_after (take (synced_len acts) acts) from) new → IsImage (record { start = start; trail = trail }) new
 takes_image_at start from trail acts picks new is_start is_trail takes =
     takes_image (record { start = start; trail = trail }) picks new
-    (subst (λ (l : List Act). Takes l picks (contents_after (take (synced_len l) l) start) new) is_trail (subst (λ (s : Pages). Takes acts picks (contents_after (take (synced_len acts) acts) s) new) is_start takes))
+    (subst (λ (l : List DiskAct). Takes l picks (contents_after (take (synced_len l) l) start) new) is_trail (subst (λ (s : Pages). Takes acts picks (contents_after (take (synced_len acts) acts) s) new) is_start takes))

@@ -3,15 +3,15 @@ use Rattle.std.proofs.Common.{◌≡◌, ◌≢◌, ◌⊎◌, ℕ, Bool, true, 
 use Rattle.std.proofs.lemmas.List.Elements.{Contains-append_left, Contains-append_right, Contains-append_cases, Contains-push, Contains-push_cases}
 use Rattle.std.proofs.lemmas.Bool.{cond-true, cond-false}
 use Rattle.std.proofs.lemmas.Bool.Decides.{eqb_tells}
-use Rattle.disk_model.specs.declared.act.Act.{Act}
-use Rattle.disk_model.specs.declared.act.Act.TheVariants.{Wrote, Failed}
+use Rattle.disk_model.specs.declared.act.DiskAct.{DiskAct}
+use Rattle.disk_model.specs.declared.act.DiskAct.TheVariants.{Wrote, Failed}
 use Rattle.disk_model.specs.Past.{Page, PageState, Past, then_act, after_wrote, after_failed, after_act, after_acts, state_of, IsPossible}
 
-pub after_acts-append : (n : ℕ) (s : PageState) (xs ys : List Act) → after_acts n s (xs ++ ys) ≡ after_acts n (after_acts n s xs) ys
+pub after_acts-append : (n : ℕ) (s : PageState) (xs ys : List DiskAct) → after_acts n s (xs ++ ys) ≡ after_acts n (after_acts n s xs) ys
 after_acts-append n s [] ys = refl
 after_acts-append n s (x ∷ xs) ys = after_acts-append n (after_act n s x) xs ys
 
-pub state_of-then_act : (past : Past) (act : Act) (n : ℕ) → state_of (then_act past act) n ≡ after_act n (state_of past n) act
+pub state_of-then_act : (past : Past) (act : DiskAct) (n : ℕ) → state_of (then_act past act) n ≡ after_act n (state_of past n) act
 state_of-then_act past act n = after_acts-append n _ past.trail (act ∷ [])
 
 pub nothing : {v : Page} → Contains {X = Page} [] v → ⊥

@@ -1,8 +1,8 @@
 -- What contracts see of the disks in memory.
 use Rattle.std.specs.Prelude.{ℕ, ◌≡◌, ◌⊎◌, ◌↔◌, ◌+◌, ◌-◌, ◌^◌, ◌<◌, ◌≤◌, min, Bool, true, false, List, [], ◌∷◌, length, drop, Result, IsErr, OnOk, OnErr}
 use Rattle.std.specs.List.{Contains}
-use Rattle.disk_model.specs.declared.act.Act.{Act}
-use Rattle.disk_model.specs.declared.act.Act.TheVariants.{Wrote, Failed, Synced}
+use Rattle.disk_model.specs.declared.act.DiskAct.{DiskAct}
+use Rattle.disk_model.specs.declared.act.DiskAct.TheVariants.{Wrote, Failed, Synced}
 use Rattle.disk_model.specs.Past.{Page, Pages, page_at, Past, IsPast, then_act, state_of, MayRead}
 use Rattle.disk_model.specs.Images.{contents}
 
@@ -116,7 +116,7 @@ abbrev pub Blows : Fuse → Type 0
 Blows fuse = (fuse.blown ≡ true) ⊎ (fuse.left ≡ 0)
 
 -- how many of the acts are writes and syncs that succeeded
-abbrev pub passed_count : List Act → ℕ
+abbrev pub passed_count : List DiskAct → ℕ
 passed_count [] = 0
 passed_count (Wrote n bytes ∷ acts) = passed_count acts + 1
 passed_count (Failed n bytes ∷ acts) = passed_count acts

@@ -2,8 +2,8 @@
 use Rattle.std.specs.Prelude.{ℕ, ◌≡◌, ◌+◌, ◌<◌, ◌≤◌, ⊤, List, [], ◌++◌, length, take, ◌∷◌, slice_set, Option, Some, None, IfSome}
 use Rattle.std.specs.Option.{option_map}
 use Rattle.std.specs.List.{AllByRecursion}
-use Rattle.disk_model.specs.declared.act.Act.{Act}
-use Rattle.disk_model.specs.declared.act.Act.TheVariants.{Wrote, Failed, Synced}
+use Rattle.disk_model.specs.declared.act.DiskAct.{DiskAct}
+use Rattle.disk_model.specs.declared.act.DiskAct.TheVariants.{Wrote, Failed, Synced}
 use Rattle.disk_model.specs.Past.{Page, Pages, page_at, Past, IsActIn, state_of, IsPossible, IsLatest}
 
 -- Each page has a possible value of its own.
@@ -17,7 +17,7 @@ pub record IsLatestImage (past : Past) (image : Pages) : Type 0 where
   pub each : (n : ℕ) → n < length past.start → IsLatest (state_of past n) (page_at image n)
 
 -- what stands on the pages where each write that succeeded was made, and no other
-abbrev pub contents_after : List Act → Pages → Pages
+abbrev pub contents_after : List DiskAct → Pages → Pages
 contents_after [] pages = pages
 contents_after (Wrote n bytes ∷ acts) pages = contents_after acts (slice_set pages n bytes)
 contents_after (Failed n bytes ∷ acts) pages = contents_after acts pages
@@ -67,15 +67,15 @@ pub record IsInRow (first count n : ℕ) : Type 0 where
   pub below : n < first + count
 
 -- the writes of a row, each with success
-abbrev pub row_acts : ℕ → Pages → List Act
+abbrev pub row_acts : ℕ → Pages → List DiskAct
 row_acts first [] = []
 row_acts first (page ∷ pages) = Wrote first page ∷ row_acts (first + 1) pages
 
 -- the past with more acts, where it is told
-abbrev pub then_acts : Past → List Act → Past
+abbrev pub then_acts : Past → List DiskAct → Past
 then_acts past acts = record past { trail = past.trail ++ acts }
 
-abbrev pub with_acts : Option Past → List Act → Option Past
+abbrev pub with_acts : Option Past → List DiskAct → Option Past
 with_acts told acts = option_map (λ past. then_acts past acts) told
 
 -- the past as it was after this number of acts
@@ -85,12 +85,12 @@ moment past count = record past { trail = take count past.trail }
 -- new is old and what was done since
 pub record GoesOn (old new : Past) : Type 0 where
   pub start : new.start ≡ old.start
-  pub trail : (acts : List Act) × (new.trail ≡ old.trail ++ acts)
+  pub trail : (acts : List DiskAct) × (new.trail ≡ old.trail ++ acts)
 
 -- new is old and what was done since, which wrote only pages of the region
 pub record WritesIn (region : ℕ → Type 0) (old new : Past) : Type 0 where
   pub start : new.start ≡ old.start
-  pub trail : (acts : List Act) × (new.trail ≡ old.trail ++ acts) × AllByRecursion (IsActIn region) acts
+  pub trail : (acts : List DiskAct) × (new.trail ≡ old.trail ++ acts) × AllByRecursion (IsActIn region) acts
 
 -- new goes on from old, and at each moment from old on each image has P
 pub record Keeps (P : Pages → Type 0) (old new : Past) : Type 0 where

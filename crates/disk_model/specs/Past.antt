@@ -2,8 +2,8 @@
 use Rattle.std.specs.Prelude.{ℕ, ◌≡◌, ◌+◌, ◌^◌, ◌-◌, ◌<◌, ◌≤◌, ◌==◌, ◌⊎◌, ⊤, min, if◌then◌else◌, List, [], ◌∷◌, ◌++◌, length, slice_index, slice_index_or, Option, replicate}
 use Rattle.std.specs.Option.{option_map}
 use Rattle.std.specs.List.{AllByRecursion, Contains}
-use Rattle.disk_model.specs.declared.act.Act.{Act}
-use Rattle.disk_model.specs.declared.act.Act.TheVariants.{Wrote, Failed, Synced}
+use Rattle.disk_model.specs.declared.act.DiskAct.{DiskAct}
+use Rattle.disk_model.specs.declared.act.DiskAct.TheVariants.{Wrote, Failed, Synced}
 
 -- the bytes of a page; the pages of a disk, in order
 abbrev pub Page : Type 0
@@ -26,7 +26,7 @@ zero_pages count = replicate count zero_page
 -- the pages that a disk began with, and what was done to it since, in order
 pub record Past : Type 0 where
   pub start : Pages
-  pub trail : List Act
+  pub trail : List DiskAct
 
 -- a page has 4096 bytes
 pub record IsPage (page : Page) : Type 0 where
@@ -34,13 +34,13 @@ pub record IsPage (page : Page) : Type 0 where
   pub bytes : (i : ℕ) → slice_index page i < 256
 
 -- the act writes a page of the region, or none
-abbrev pub IsActIn : (ℕ → Type 0) → Act → Type 0
+abbrev pub IsActIn : (ℕ → Type 0) → DiskAct → Type 0
 IsActIn region (Wrote n bytes) = region n
 IsActIn region (Failed n bytes) = region n
 IsActIn region Synced = ⊤
 
 -- the act has the bytes of a page, or none
-abbrev pub HasPage : Act → Type 0
+abbrev pub HasPage : DiskAct → Type 0
 HasPage (Wrote n bytes) = IsPage bytes
 HasPage (Failed n bytes) = IsPage bytes
 HasPage Synced = ⊤
@@ -53,10 +53,10 @@ pub record IsPast (count : ℕ) (past : Past) : Type 0 where
   pub bytes : AllByRecursion HasPage past.trail
 
 -- the past with one more act, where it is told
-abbrev pub then_act : Past → Act → Past
+abbrev pub then_act : Past → DiskAct → Past
 then_act past act = record past { trail = past.trail ++ act ∷ [] }
 
-abbrev pub with_act : Option Past → Act → Option Past
+abbrev pub with_act : Option Past → DiskAct → Option Past
 with_act told act = option_map (λ past. then_act past act) told
 
 -- What may be found at a page: the value written last (or that of the start), the values of the
@@ -77,12 +77,12 @@ abbrev pub after_synced : PageState → PageState
 after_synced state = record state { older = [] }
 
 -- what an act makes of the state of page n
-abbrev pub after_act : ℕ → PageState → Act → PageState
+abbrev pub after_act : ℕ → PageState → DiskAct → PageState
 after_act n state (Wrote page bytes) = if page == n then after_wrote state bytes else state
 after_act n state (Failed page bytes) = if page == n then after_failed state bytes else state
 after_act n state Synced = after_synced state
 
-abbrev pub after_acts : ℕ → PageState → List Act → PageState
+abbrev pub after_acts : ℕ → PageState → List DiskAct → PageState
 after_acts n state [] = state
 after_acts n state (act ∷ acts) = after_acts n (after_act n state act) acts
 

@@ -1,21 +1,21 @@
 -- Which crash image a restart is asked for.
 use Rattle.std.specs.Prelude.{ℕ, ◌≡◌, ◌≢◌, ◌+◌, ◌==◌, ⊤, if◌then◌else◌, Bool, true, false, List, [], ◌∷◌, length, take, nat_lt, slice_get, Option, Some, None, IsSome}
 use Rattle.std.specs.List.{All, AllPairs}
-use Rattle.disk_model.specs.declared.act.Act.{Act}
-use Rattle.disk_model.specs.declared.act.Act.TheVariants.{Wrote, Failed, Synced}
+use Rattle.disk_model.specs.declared.act.DiskAct.{DiskAct}
+use Rattle.disk_model.specs.declared.act.DiskAct.TheVariants.{Wrote, Failed, Synced}
 use Rattle.disk_model.specs.declared.power_loss.Pick.{Pick}
 use Rattle.disk_model.specs.declared.power_loss.RestartFault.{RestartFault}
 use Rattle.disk_model.specs.declared.power_loss.RestartFault.TheVariants.{BadPick, NoMemory}
 use Rattle.disk_model.specs.Past.{Page, Pages, page_at, Past}
 use Rattle.disk_model.specs.Images.{contents_after}
 
-abbrev pub is_sync : Act → Bool
+abbrev pub is_sync : DiskAct → Bool
 is_sync (Wrote n bytes) = false
 is_sync (Failed n bytes) = false
 is_sync Synced = true
 
 -- how many acts there are up to the last sync, with it; 0 where there is none
-abbrev pub synced_len : List Act → ℕ
+abbrev pub synced_len : List DiskAct → ℕ
 synced_len [] = 0
 synced_len (act ∷ acts) = if nat_lt 0 (synced_len acts) then synced_len acts + 1 else (if is_sync act then 1 else 0)
 
@@ -24,34 +24,34 @@ abbrev pub synced_contents : Past → Pages
 synced_contents past = contents_after (take (synced_len past.trail) past.trail) past.start
 
 -- what the act writes to this page, made or failed
-abbrev pub value_on : ℕ → Option Act → Option Page
+abbrev pub value_on : ℕ → Option DiskAct → Option Page
 value_on page (Some (Wrote n bytes)) = if n == page then Some bytes else None
 value_on page (Some (Failed n bytes)) = if n == page then Some bytes else None
 value_on page (Some Synced) = None
 value_on page None = None
 
 -- the value of a pick: its act comes after the last sync and writes its page
-abbrev pub pick_value : List Act → Pick → Option Page
+abbrev pub pick_value : List DiskAct → Pick → Option Page
 pick_value trail pick =
     if nat_lt pick.act (synced_len trail) then None else value_on pick.page (slice_get trail pick.act)
 
 -- each pick has a value, and no page is picked twice
-pub record AreGood (trail : List Act) (picks : List Pick) : Type 0 where
+pub record AreGood (trail : List DiskAct) (picks : List Pick) : Type 0 where
   pub each : All (λ pick. IsSome (pick_value trail pick)) picks
   pub apart : AllPairs (λ a b. a.page ≢ b.page) picks
 
 -- The picks before this one are good, and with it they aren't.
-pub record IsFirstBad (trail : List Act) (picks : List Pick) (n : ℕ) : Type 0 where
+pub record IsFirstBad (trail : List DiskAct) (picks : List Pick) (n : ℕ) : Type 0 where
   pub before : AreGood trail (take n picks)
   pub bad : AreGood trail (take (n + 1) picks) → ⊥
 
 -- why a restart fails
-abbrev pub HasCause : List Act → List Pick → RestartFault → Type 0
+abbrev pub HasCause : List DiskAct → List Pick → RestartFault → Type 0
 HasCause trail picks (BadPick n) = IsFirstBad trail picks n
 HasCause trail picks NoMemory = ⊤
 
 -- new is old with the value of each pick on its page
-pub record Takes (trail : List Act) (picks : List Pick) (old new : Pages) : Type 0 where
+pub record Takes (trail : List DiskAct) (picks : List Pick) (old new : Pages) : Type 0 where
   pub size : length new ≡ length old
   pub picked : All (λ pick. pick_value trail pick ≡ Some (page_at new pick.page)) picks
   pub others : (n : ℕ) → All (λ pick. pick.page ≢ n) picks → page_at new n ≡ page_at old n

@@ -1,7 +1,7 @@
 //! A disk of pages.
 
 ghost use Rattle.std.specs.Prelude.{◌≡◌, ◌⊎◌, ℕ, ◌+◌, ◌-◌, ◌^◌, ◌<◌, ◌≤◌, min, List, Option, OnOk, OnErr, IfSome};
-ghost use Rattle.disk_model.specs.declared.act.Act.TheVariants.{Wrote, Failed, Synced};
+ghost use Rattle.disk_model.specs.declared.act.DiskAct.TheVariants.{Wrote, Failed, Synced};
 ghost use Rattle.disk_model.specs.Past.{Past, IsPast, with_act, state_of, MayRead, Rose};
 
 /// The disk failed to read, to write or to sync.

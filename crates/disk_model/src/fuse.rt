@@ -1,7 +1,7 @@
 //! A disk that fails after a number of writes.
 
 ghost use Rattle.std.specs.Prelude.{◌≡◌, ◌⊎◌, ℕ, ◌+◌, ◌<◌, ◌≤◌, length, true, false, Some, IsErr, OnOk, OnErr};
-ghost use Rattle.disk_model.specs.declared.act.Act.TheVariants.{Wrote, Failed, Synced};
+ghost use Rattle.disk_model.specs.declared.act.DiskAct.TheVariants.{Wrote, Failed, Synced};
 ghost use Rattle.disk_model.specs.Past.{IsPast, then_act, state_of, MayRead, Rose};
 ghost use Rattle.disk_model.specs.Disks.{one_more, after_fault, new_fuse, fuse_tie, IsFuse, FailsWrite, ReadsMem, WritesMem, SyncsMem, PassesOn, Blows};
 

@@ -2,8 +2,8 @@
 
 ghost use Rattle.std.specs.Prelude.{◌≡◌, ◌≢◌, ◌⊎◌, ◌↔◌, ℕ, ◌<◌, ◌≤◌, [], ◌++◌, List, length, slice_set};
 ghost use Rattle.std.specs.List.{AllByRecursion};
-ghost use Rattle.disk_model.specs.declared.act.Act.{Act};
-ghost use Rattle.disk_model.specs.declared.act.Act.TheVariants.{Wrote, Failed, Synced};
+ghost use Rattle.disk_model.specs.declared.act.DiskAct.{DiskAct};
+ghost use Rattle.disk_model.specs.declared.act.DiskAct.TheVariants.{Wrote, Failed, Synced};
 ghost use Rattle.disk_model.specs.Past.{Page, Pages, Past, IsPage, IsPast, IsActIn, page_at, then_act, state_of, IsPossible, IsLatest};
 ghost use Rattle.disk_model.specs.Images.{IsImage, IsLatestImage, contents, moment};
 
@@ -54,7 +54,7 @@ pub fn images_after_sync()
 
 /// A page with one value in all images keeps it over acts that don't write it.
 pub fn untouched_page()
-    ensures { (past : Past) (acts : List Act) (n : ℕ) (value : Page)
+    ensures { (past : Past) (acts : List DiskAct) (n : ℕ) (value : Page)
         → ((image : Pages) → IsImage past image → page_at image n ≡ value)
         → AllByRecursion (IsActIn (λ k. k ≢ n)) acts
         → (image : Pages) → IsImage (record past { trail = past.trail ++ acts }) image
@@ -69,7 +69,7 @@ pub fn fresh_disk()
 
 /// What is done later leaves the images of earlier moments.
 pub fn earlier_moment()
-    ensures { (past : Past) (acts : List Act) (count : ℕ) (image : Pages)
+    ensures { (past : Past) (acts : List DiskAct) (count : ℕ) (image : Pages)
         → count ≤ length past.trail
         → IsImage (moment (record past { trail = past.trail ++ acts }) count) image
         ↔ IsImage (moment past count) image }

@@ -13,7 +13,7 @@ mod quiet;
 mod replay;
 mod rows;
 
-pub use act::Act;
+pub use act::DiskAct;
 pub use copy::CopyFault;
 pub use disk::{Disk, DiskFailed};
 pub use fuse::FuseDisk;

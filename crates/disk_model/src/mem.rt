@@ -2,13 +2,13 @@
 
 ghost use Rattle.std.specs.Prelude.{◌≡◌, ◌⊎◌, ◌↔◌, ℕ, ◌+◌, ◌-◌, ◌^◌, ◌<◌, ◌≤◌, min, length, [], ◌∷◌, ◌++◌, true, false, Option, Some, vec_len, IsTrue, IsErr, IfOk, IfErr, OnOk, OnErr, IfSome};
 ghost use Rattle.std.specs.List.{AllByRecursion, Contains};
-ghost use Rattle.disk_model.specs.declared.act.Act.TheVariants.{Wrote, Failed, Synced};
+ghost use Rattle.disk_model.specs.declared.act.DiskAct.TheVariants.{Wrote, Failed, Synced};
 ghost use Rattle.disk_model.specs.Past.{Past, IsPage, IsPast, then_act, with_act, state_of, MayRead, Rose, page_at, zero_pages};
 ghost use Rattle.disk_model.specs.Images.{IsImage, contents};
 ghost use Rattle.disk_model.specs.Picks.{synced_contents, AreGood, HasCause, Takes};
 ghost use Rattle.disk_model.specs.Disks.{new_mem, IsNextListed, after_call, after_fault, after_want, one_more, FailsWrite};
 
-use crate::act::Act;
+use crate::act::DiskAct;
 use crate::disk::{Disk, DiskFailed};
 use crate::pages::zero_pages;
 use crate::power_loss::{Pick, RestartFault};
@@ -21,7 +21,7 @@ use std::marker::Model;
 #[derive(Drop)]
 pub struct MemDisk {
     start: Vec<[u8; 4096]>,
-    acts: Vec<Act>,
+    acts: Vec<DiskAct>,
     // what stands on the pages after all acts
     current: Vec<[u8; 4096]>,
     failing: Vec<u64>,
@@ -56,7 +56,7 @@ fn is_listed(failing: &[u64], call: u64) -> bool
 }
 
 // Puts an act behind the others. Whether there was memory for it.
-fn push_act(acts: &mut Vec<Act>, act: Act) -> bool
+fn push_act(acts: &mut Vec<DiskAct>, act: DiskAct) -> bool
     ensures pushed { result ≡ true → acts.new.items ≡ acts.old.items ++ act ∷ [] }
     ensures lost { result ≡ false → acts.new.items ≡ acts.old.items }
 {
@@ -173,7 +173,7 @@ impl MemDisk {
         ensures told_before { IsPast (length self.old.past.start) self.old.past }
         ensures told { IsPast (length self.new.past.start) self.new.past }
     {
-        if push_act(&mut self.acts, Act::Failed(page, *bytes)) {
+        if push_act(&mut self.acts, DiskAct::Failed(page, *bytes)) {
             self.fail();
         } else {
             self.starve();
@@ -235,7 +235,7 @@ impl Disk for MemDisk {
             self.fail_write(page, bytes);
             return Err(DiskFailed);
         }
-        if !push_act(&mut self.acts, Act::Wrote(page, *bytes)) {
+        if !push_act(&mut self.acts, DiskAct::Wrote(page, *bytes)) {
             self.starve();
             return Err(DiskFailed);
         }
@@ -259,7 +259,7 @@ impl Disk for MemDisk {
             self.fail(); // adds no act
             return Err(DiskFailed);
         }
-        if !push_act(&mut self.acts, Act::Synced) {
+        if !push_act(&mut self.acts, DiskAct::Synced) {
             self.starve();
             return Err(DiskFailed);
         }

@@ -1,7 +1,7 @@
 //! A disk in memory that tells nothing of its past and never fails.
 
 ghost use Rattle.std.specs.Prelude.{◌≡◌, ◌⊎◌, ◌+◌, ◌-◌, ◌^◌, ◌<◌, ◌≤◌, min, length, [], Option, None, IsOk, IfOk, OnOk, OnErr, IfSome, slice_set};
-ghost use Rattle.disk_model.specs.declared.act.Act.TheVariants.{Wrote, Failed, Synced};
+ghost use Rattle.disk_model.specs.declared.act.DiskAct.TheVariants.{Wrote, Failed, Synced};
 ghost use Rattle.disk_model.specs.Past.{Past, IsPast, with_act, state_of, MayRead, Rose, page_at, zero_pages};
 ghost use Rattle.disk_model.specs.Disks.{one_more};
 

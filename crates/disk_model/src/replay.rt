@@ -7,18 +7,18 @@ ghost use Rattle.disk_model.specs.Past.{Page, IsActIn};
 ghost use Rattle.disk_model.specs.Images.{contents_after};
 ghost use Rattle.disk_model.specs.Picks.{is_sync, synced_len, pick_value, AreGood, HasCause, Takes};
 
-use crate::act::Act;
+use crate::act::DiskAct;
 use crate::power_loss::{Pick, RestartFault};
 use std::alloc::{AllocError, Global};
 
-fn is_sync(act: &Act) -> bool
+fn is_sync(act: &DiskAct) -> bool
     ensures { result ≡ is_sync act.now }
 {
-    matches!(act, Act::Synced)
+    matches!(act, DiskAct::Synced)
 }
 
 // How many acts there are up to the last sync, with it.
-fn synced_len(acts: &[Act]) -> usize
+fn synced_len(acts: &[DiskAct]) -> usize
     ensures { result ≡ synced_len acts.now }
 {
     let mut synced = 0;
@@ -31,17 +31,17 @@ fn synced_len(acts: &[Act]) -> usize
 }
 
 // Makes a write that succeeded.
-fn apply(act: &Act, pages: &mut [[u8; 4096]])
+fn apply(act: &DiskAct, pages: &mut [[u8; 4096]])
     requires { IsActIn (λ n. n < length pages.old) act.now }
     ensures { pages.new ≡ contents_after (act.now ∷ []) pages.old }
 {
-    if let Act::Wrote(page, bytes) = act {
+    if let DiskAct::Wrote(page, bytes) = act {
         pages[*page as usize] = *bytes;
     }
 }
 
 // Makes each write that succeeded.
-fn replay(acts: &[Act], pages: &mut [[u8; 4096]])
+fn replay(acts: &[DiskAct], pages: &mut [[u8; 4096]])
     requires { AllByRecursion (IsActIn (λ n. n < length pages.old)) acts.now }
     ensures { pages.new ≡ contents_after acts.now pages.old }
 {
@@ -51,7 +51,7 @@ fn replay(acts: &[Act], pages: &mut [[u8; 4096]])
 }
 
 // The value that a pick names.
-fn value_of<'a>(acts: &'a [Act], synced: usize, pick: &Pick) -> Option<&'a [u8; 4096]>
+fn value_of<'a>(acts: &'a [DiskAct], synced: usize, pick: &Pick) -> Option<&'a [u8; 4096]>
     requires { synced ≡ synced_len acts.now }
     ensures { option_copied result ≡ pick_value acts.now pick.now }
 {
@@ -59,15 +59,15 @@ fn value_of<'a>(acts: &'a [Act], synced: usize, pick: &Pick) -> Option<&'a [u8; 
         return None;
     }
     match acts.get(pick.act as usize) {
-        Some(Act::Wrote(page, bytes)) if *page == pick.page => Some(bytes),
-        Some(Act::Failed(page, bytes)) if *page == pick.page => Some(bytes),
+        Some(DiskAct::Wrote(page, bytes)) if *page == pick.page => Some(bytes),
+        Some(DiskAct::Failed(page, bytes)) if *page == pick.page => Some(bytes),
         _ => None,
     }
 }
 
 // Puts the value of a pick on its page, which wasn't picked before. Whether that could be done.
 fn put_pick(
-    acts: &[Act],
+    acts: &[DiskAct],
     synced: usize,
     pick: &Pick,
     pages: &mut [[u8; 4096]],
@@ -98,7 +98,7 @@ fn put_pick(
 
 // Puts the value of each pick on its page.
 fn put_picks(
-    acts: &[Act],
+    acts: &[DiskAct],
     synced: usize,
     picks: &[Pick],
     pages: &mut [[u8; 4096]],
@@ -124,7 +124,7 @@ fn put_picks(
 pub(crate) fn picked_pages(
     alloc: Global,
     start: &[[u8; 4096]],
-    acts: &[Act],
+    acts: &[DiskAct],
     picks: &[Pick],
 ) -> Result<Vec<[u8; 4096]>, RestartFault>
     requires range { AllByRecursion (IsActIn (λ n. n < length start.now)) acts.now }

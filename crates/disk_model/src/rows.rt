@@ -1,7 +1,7 @@
 //! Pages in a row.
 
 ghost use Rattle.std.specs.Prelude.{◌≡◌, ◌+◌, ◌≤◌, ◌∷◌, ◌++◌, [], length, Option, OnOk, OnErr, IfSome};
-ghost use Rattle.disk_model.specs.declared.act.Act.TheVariants.{Synced};
+ghost use Rattle.disk_model.specs.declared.act.DiskAct.TheVariants.{Synced};
 ghost use Rattle.disk_model.specs.Past.{IsPast, Rose};
 ghost use Rattle.disk_model.specs.Images.{row_acts, with_acts, IsInRow, RowIsWritten, RowIsSettled, SettlesOthers, WritesOnly};
 

@@ -14,7 +14,7 @@ use Rattle.std.proofs.lemmas.List.FromFn.{length-map-range_with_len, get_or-map-
 use Rattle.far_archive.specs.declared.fields.Places.{Places}
 use Rattle.far_archive.specs.Fields.{entry_of, count, name_of, data_of, files}
 use Rattle.far_archive.specs.Faults.{index_fault, entry_fault, entries_fault, first_fault}
-use Rattle.far_archive.specs.Kept.{Keeps}
+use Rattle.far_archive.specs.Invariant.{Keeps}
 use Rattle.far_archive.proofs.Facts.{HasRange}
 use Rattle.far_archive.proofs.Holding.{neither, HasPlace, placed}
 use Rattle.far_archive.proofs.Law.{GoodIndex, good_index}

@@ -2,5 +2,5 @@ pub mod Fields
 pub mod Faults
 pub mod Archive
 pub mod Written
-pub mod Kept
+pub mod Invariant
 pub mod Named

@@ -5,7 +5,7 @@ ghost use Rattle.std.specs.Option.{option_map, option_copied};
 ghost use Rattle.far_archive.specs.Fields.{AreBytes, entry_of, count, name_of, data_of, files};
 ghost use Rattle.far_archive.specs.Faults.{first_fault};
 ghost use Rattle.far_archive.specs.Archive.{IsArchive, HasAscendingNames};
-ghost use Rattle.far_archive.specs.Kept.{Keeps};
+ghost use Rattle.far_archive.specs.Invariant.{Keeps};
 ghost use Rattle.far_archive.specs.Named.{file_named};
 
 use crate::fault::FarFault;
@@ -25,7 +25,7 @@ pub struct Archive {
 impl Model for Archive {
     ghost use Rattle.std.specs.Prelude.{List, ℕ};
     ghost use Rattle.far_archive.specs.Fields.{files};
-    ghost use Rattle.far_archive.specs.Kept.{Keeps};
+    ghost use Rattle.far_archive.specs.Invariant.{Keeps};
 
     ghost Value = { List (List ℕ × List ℕ) };
 

@@ -19,7 +19,7 @@ use Rattle.pkg_names.specs.declared.root.Root.{Root}
 use Rattle.meta_contents.specs.declared.contents.ContentsLine.{ContentsLine}
 use Rattle.meta_contents.specs.Lines.{pair_in}
 use Rattle.meta_contents.specs.Contents.{Pair, pairs, paths, is_in_meta, is_among, placed}
-use Rattle.meta_contents.specs.Kept.{has, HasPaths}
+use Rattle.meta_contents.specs.Invariant.{has, HasPaths}
 
 abbrev pub Key : Type 0
 Key = Vec ℕ Global

@@ -7,6 +7,7 @@ use Rattle.pkg_names.specs.Root.{IsRoot, root_text}
 use Rattle.pkg_names.specs.FileText.{IsFile}
 use Rattle.pkg_names.specs.Text.{line_feed, equals_sign, lines_of}
 use Rattle.meta_contents.specs.declared.contents.ContentsLine.{ContentsLine}
+use Rattle.meta_contents.specs.declared.contents.TheConstants.{LINE_LIMIT}
 use Rattle.meta_contents.specs.declared.fault.ContentsFault.{ContentsFault}
 use Rattle.meta_contents.specs.declared.fault.ContentsFault.TheVariants.{Utf8, Line, InMeta, Repeat, TooMany}
 use Rattle.meta_contents.specs.Lines.{pair_in}
@@ -29,13 +30,9 @@ is_among path paths = list_any (λ other. bytes_eq other path) paths
 abbrev pub paths : List Pair → List (List ℕ)
 paths list = map (λ pair. pair.0) list
 
--- the most lines, and so the most files
-abbrev pub most_lines : ℕ
-most_lines = 4096
-
 -- so many different file paths outside `meta/` at most, each with a root
 pub record IsContents (list : List Pair) : Type 0 where
-  pub few : length list ≤ most_lines
+  pub few : length list ≤ LINE_LIMIT
   pub files : All (λ pair. IsFile pair.0) list
   pub roots : All (λ pair. IsRoot pair.1) list
   pub outer : All (λ pair. is_in_meta pair.0 ≡ false) list
@@ -71,7 +68,7 @@ abbrev pub ◌>>=◌ : {A B : Type 0} → Result A ContentsFault → (A → Resu
 unfoldable pub reading : List (List ℕ) → ℕ → List (List ℕ) → Result (List Pair) ContentsFault
 reading seen n [] = Ok []
 reading seen n (line ∷ rest) =
-    if nat_lt most_lines n then Err TooMany
+    if nat_lt LINE_LIMIT n then Err TooMany
     else (placed n seen (pair_in line) >>= λ pair. reading (seen ++ pair.0 ∷ []) (n + 1) rest
     >>= λ others. Ok (pair ∷ others))
 

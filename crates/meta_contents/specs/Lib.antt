@@ -1,4 +1,4 @@
 pub mod Lines
 pub mod Contents
 pub mod Package
-pub mod Kept
+pub mod Invariant

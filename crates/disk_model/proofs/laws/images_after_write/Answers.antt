@@ -1,6 +1,6 @@
 use Rattle.std.proofs.Common.{refl, Some, None, eq-eqb}
 use Rattle.std.proofs.lemmas.Bool.{cond-true}
-use Rattle.disk_model.specs.declared.act.Act.TheVariants.{Wrote, Failed}
+use Rattle.disk_model.specs.declared.act.DiskAct.TheVariants.{Wrote, Failed}
 use Rattle.disk_model.proofs.ImageLemmas.{image_wrote, image_failed}
 use Rattle.disk_model.proofs.ReplayLemmas.{image_stays, image_comes}
 use Rattle.disk_model.proofs.laws.images_after_write.Goals as goal

@@ -1,6 +1,6 @@
 use Rattle.std.proofs.Common.{[], sym, ◌∙◌}
 use Rattle.std.proofs.lemmas.Bool.{cond-true, cond-false}
-use Rattle.disk_model.specs.declared.act.Act.TheVariants.{Wrote}
+use Rattle.disk_model.specs.declared.act.DiskAct.TheVariants.{Wrote}
 use Rattle.disk_model.proofs.ReplayLemmas.{synced_len-more}
 use Rattle.disk_model.proofs.replay.synced_len.Goals as goal
 use Rattle.disk_model.proofs.replay.synced_len.Goals.{then-is_sync, else-is_sync}

@@ -1,5 +1,5 @@
 use Rattle.std.proofs.Common.{◌<◌, length, ap, refl, arith}
-use Rattle.disk_model.specs.declared.act.Act.TheVariants.{Failed}
+use Rattle.disk_model.specs.declared.act.DiskAct.TheVariants.{Failed}
 use Rattle.disk_model.specs.Disks.{Mem}
 use Rattle.disk_model.proofs.KeptLemmas.{kept_act_to}
 use Rattle.disk_model.proofs.mem.MemDisk.fail_write.Goals as goal

@@ -1,5 +1,5 @@
 use Rattle.std.proofs.Common.{refl}
-use Rattle.disk_model.specs.declared.act.Act.TheVariants.{Synced}
+use Rattle.disk_model.specs.declared.act.DiskAct.TheVariants.{Synced}
 use Rattle.disk_model.proofs.KeptLemmas.{kept_act_to}
 use Rattle.disk_model.proofs.mem.MemDiskDisk.sync.Goals as goal
 
