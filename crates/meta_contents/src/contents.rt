@@ -2,7 +2,7 @@
 
 ghost use Rattle.std.specs.Prelude.{◌≡◌, ◌↔◌, ◌++◌, ◌∷◌, [], List, length, true, false, Err, OnOk, OnErr, IfOk, IsErrOf};
 ghost use Rattle.pkg_names.specs.Text.{line_feed};
-ghost use Rattle.meta_contents.specs.Contents.{Pair, pairs, paths, most_lines, is_in_meta, is_among, IsContents, StandsFor, line_text, text_of};
+ghost use Rattle.meta_contents.specs.Contents.{Pair, pairs, paths, is_in_meta, is_among, IsContents, StandsFor, line_text, text_of};
 
 use crate::fault::AddFault;
 use crate::indexed::IndexedLines;
@@ -62,9 +62,9 @@ impl Contents {
         ensures repeat { IsErrOf result AddFault.Repeat → is_among file (paths self.old) ≡ true }
         ensures repeated { is_in_meta file ≡ false → is_among file (paths self.old) ≡ true
             → result ≡ Err AddFault.Repeat }
-        ensures too_many { IsErrOf result AddFault.TooMany → length self.old ≡ most_lines }
+        ensures too_many { IsErrOf result AddFault.TooMany → length self.old ≡ LINE_LIMIT }
         ensures full { is_in_meta file ≡ false → is_among file (paths self.old) ≡ false
-            → length self.old ≡ most_lines → result ≡ Err AddFault.TooMany }
+            → length self.old ≡ LINE_LIMIT → result ≡ Err AddFault.TooMany }
     {
         if is_in_meta(file.as_slice()) {
             return Err(AddFault::InMeta);

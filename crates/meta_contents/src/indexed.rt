@@ -2,7 +2,7 @@
 
 ghost use Rattle.std.specs.Prelude.{◌≡◌, ◌++◌, ◌∷◌, [], length, OnOk, OnErr};
 ghost use Rattle.meta_contents.specs.Contents.{pairs, paths, is_among};
-ghost use Rattle.meta_contents.specs.Kept.{HasPaths};
+ghost use Rattle.meta_contents.specs.Invariant.{HasPaths};
 
 use crate::contents::ContentsLine;
 use std::alloc::{AllocError, Global};
@@ -20,7 +20,7 @@ pub(crate) struct IndexedLines {
 impl Model for IndexedLines {
     ghost use Rattle.std.specs.Prelude.{List};
     ghost use Rattle.meta_contents.specs.declared.contents.ContentsLine.{ContentsLine};
-    ghost use Rattle.meta_contents.specs.Kept.{HasPaths};
+    ghost use Rattle.meta_contents.specs.Invariant.{HasPaths};
 
     ghost Value = { List ContentsLine };
 

@@ -3,8 +3,8 @@
 ghost use Rattle.std.specs.Prelude.{◌≡◌, ◌⊎◌, ◌<◌, [], length, Some, None, Ok, Err, IfOk, IfErr, OnOk, List, ℕ};
 ghost use Rattle.pkg_names.specs.Text.{lines_of};
 ghost use Rattle.meta_contents.specs.Lines.{pair_in};
-ghost use Rattle.meta_contents.specs.Contents.{Pair, paths, most_lines, placed, reading, contents_of, StandsFor};
-ghost use Rattle.meta_contents.specs.Kept.{Adds};
+ghost use Rattle.meta_contents.specs.Contents.{Pair, paths, placed, reading, contents_of, StandsFor};
+ghost use Rattle.meta_contents.specs.Invariant.{Adds};
 
 use crate::contents::{Contents, ContentsLine, LINE_LIMIT};
 use crate::fault::{AddFault, ContentsFault};
@@ -40,7 +40,7 @@ fn put_line(
     line: &[u8],
     n: u32,
 ) -> Result<(), ContentsFault>
-    requires { length contents.old < most_lines }
+    requires { length contents.old < LINE_LIMIT }
     ensures found { OnOk result (Adds (placed n (paths contents.old) (pair_in line.now)) contents.old contents.new) }
     ensures fault { IfErr result (λ fault. (fault ≡ ContentsFault.NoMemory)
         ⊎ (placed n (paths contents.old) (pair_in line.now) ≡ Err fault)) }

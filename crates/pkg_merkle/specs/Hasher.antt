@@ -1,7 +1,8 @@
 -- What a hasher keeps of the bytes that it was fed.
 use Rattle.std.specs.Prelude.{◌≡◌, ℕ, ◌-◌, ◌*◌, ◌/◌, ◌%◌, ◌≤◌, List, ◌++◌, length, take, drop}
 use Rattle.sha2.specs.Hashers.{Holds256}
-use Rattle.pkg_merkle.specs.Merkle.{most_bytes, head, first_hashes}
+use Rattle.pkg_merkle.specs.declared.hasher.TheConstants.{BYTES_LIMIT}
+use Rattle.pkg_merkle.specs.Merkle.{head, first_hashes}
 use Rattle.pkg_merkle.specs.declared.level.Level.{Level}
 use Rattle.pkg_merkle.specs.declared.tree.Tree.{Tree}
 use Rattle.pkg_merkle.specs.declared.hasher.Hasher.{Hasher}
@@ -28,6 +29,6 @@ byte_count hasher = hasher.length
 -- the hasher was fed these bytes
 pub record StandsFor (hasher : Hasher) (bytes : List ℕ) : Type 0 where
   pub count : byte_count hasher ≡ length bytes
-  pub within : length bytes ≤ most_bytes
+  pub within : length bytes ≤ BYTES_LIMIT
   pub block : take (length bytes % 8192) hasher.buffer ≡ open_block bytes
   pub tree : TreeHolds hasher.tree bytes (length bytes / 8192)

@@ -7,10 +7,6 @@ use Rattle.std.specs.List.{flat_map}
 use Rattle.sha2.specs.Sha256.{sha256}
 use Rattle.pkg_names.specs.declared.root.Root.{Root}
 
--- the most bytes of a blob: 4096 data blocks
-abbrev pub most_bytes : ℕ
-most_bytes = 33554432
-
 -- block i of a level's bytes: 8192 of them, or those that are left
 abbrev pub block : List ℕ → ℕ → List ℕ
 block bytes i = take 8192 (drop (8192 * i) bytes)

@@ -4,6 +4,13 @@ ghost use Rattle.std.specs.Prelude.{◌≡◌, List, ℕ};
 ghost use Rattle.pkg_names.specs.Root.{IsRoot};
 ghost use Rattle.pkg_merkle.specs.Merkle.{merkle_root, inputs, HashesLast};
 
+use crate::hasher::BYTES_LIMIT;
+
+/// The number that definitions cite by name: 4096 data blocks.
+pub fn limits()
+    ensures bytes { BYTES_LIMIT ≡ 33_554_432 }
+{}
+
 /// The Merkle root of any bytes is a list of 32 bytes, and the SHA-256 of the last input.
 pub fn blobs_have_roots()
     ensures root { (bytes : List ℕ) → IsRoot (merkle_root bytes) }

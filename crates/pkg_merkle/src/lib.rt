@@ -8,4 +8,4 @@ mod level;
 mod tree;
 
 pub use hasher::{BYTES_LIMIT, Hasher, TooLong, root_of};
-pub use laws::blobs_have_roots;
+pub use laws::{blobs_have_roots, limits};

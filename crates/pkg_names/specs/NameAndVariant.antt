@@ -2,20 +2,17 @@
 use Rattle.std.specs.Prelude.{◌≡◌, ◌≢◌, ℕ, ◌<◌, ◌≤◌, ◌==◌, ◌&&◌, ◌||◌, ◌⊎◌, Bool, List, ◌∷◌, ◌++◌, length, codes}
 use Rattle.std.specs.List.{AllPass}
 use Rattle.std.specs.Str.{bytes_eq}
+use Rattle.pkg_names.specs.declared.path.TheConstants.{NAME_LIMIT}
 use Rattle.pkg_names.specs.Text.{hyphen, underscore, full_stop, slash, is_lower_letter, is_digit}
 
 -- `a` to `z`, `0` to `9`, `-`, `_` and `.`
 abbrev pub byte_in_name : ℕ → Bool
 byte_in_name c = is_lower_letter c || is_digit c || c == hyphen || c == underscore || c == full_stop
 
--- the most bytes of a name or a variant
-abbrev pub name_limit : ℕ
-name_limit = 255
-
 -- a name or a variant: 1 to 255 such bytes, and neither `.` nor `..`
 pub record IsName (text : List ℕ) : Type 0 where
   pub not_empty : 0 < length text
-  pub not_long : length text ≤ name_limit
+  pub not_long : length text ≤ NAME_LIMIT
   pub bytes : AllPass byte_in_name text
   pub not_dot : text ≢ codes "."
   pub not_dots : text ≢ codes ".."

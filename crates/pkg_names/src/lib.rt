@@ -5,7 +5,7 @@
 #![tactic(auto)]
 
 mod file;
-mod limits;
+mod laws;
 mod lists;
 pub mod numbers;
 mod path;
@@ -17,7 +17,7 @@ pub mod text;
 pub use file::{
     FILE_PATH_LIMIT, FileFault, FilePath, SEGMENT_LIMIT, files_are_tested, is_file, read_file,
 };
-pub use limits::limits_are_of_the_definitions;
+pub use laws::limits;
 pub use lists::{Bytes, Items, Roots, Texts};
 pub use path::{NAME_LIMIT, PackagePath, PathFault, paths_are_compared, read_path, write_path};
 pub use pinned::Pinned;
