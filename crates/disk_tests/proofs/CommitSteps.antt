@@ -1,6 +1,6 @@
 -- The steps of a commit: the past before it, and after each of its three calls.
 use Rattle.std.proofs.Common.{◌≡◌, ◌⊎◌, ℕ, ◌+◌, ◌-◌, ◌<◌, ◌≤◌, [], length, set, slice_index, sym, refl, ◌∙◌, ap, subst, inl, inr, arith, Option, IfSome, get_or-set_same, get_or-set_other}
-use Rattle.disk_model.specs.declared.act.Act.TheVariants.{Wrote, Synced}
+use Rattle.disk_model.specs.declared.act.DiskAct.TheVariants.{Wrote, Synced}
 use Rattle.disk_model.specs.Past.{Page, Pages, page_at, Past, IsPast, with_act}
 use Rattle.disk_model.specs.Images.{EachImage, AtEach, WritesOnly, IsInRow, LastsOver, RowIsSettled}
 use Rattle.disk_model.proofs.Moments.{Tried, Ended, each_weaker, each_both, each_write, each_sync, written, settled, at_write, at_sync, at_end, at_weaker}

@@ -4,7 +4,6 @@ ghost use Rattle.std.specs.Prelude.{◌≡◌, ◌+◌, ◌<◌, ◌≤◌, [], 
 ghost use Rattle.disk_model.specs.Disks.{new_mem, passed_count};
 
 use disk_model::{Disk, FuseDisk, MemDisk};
-use std::test::Fail;
 
 // Some program.
 fn run<D: Disk>(mut disk: D, page: &[u8; 4096]) -> D
@@ -18,7 +17,7 @@ fn run<D: Disk>(mut disk: D, page: &[u8; 4096]) -> D
 }
 
 /// Runs it with this many writes and syncs.
-fn drill(inner: MemDisk, left: u64, page: &[u8; 4096]) -> MemDisk
+pub fn drill(inner: MemDisk, left: u64, page: &[u8; 4096]) -> MemDisk
     requires room { 0 < length inner.past.start }
     requires fresh { inner ≡ new_mem inner.past.start [] }
     ensures most { passed_count result.past.trail ≤ left }
@@ -26,13 +25,4 @@ fn drill(inner: MemDisk, left: u64, page: &[u8; 4096]) -> MemDisk
         → result.faults ≡ 0 }
 {
     run(FuseDisk::make(inner, left), page).inner()
-}
-
-#[test]
-fn drills(rt: HostRuntime) -> Result<(), Fail> {
-    for (left, acts) in [(0, 1), (1, 1), (2, 3), (3, 3), (9, 3)] {
-        let inner = MemDisk::make(rt.alloc(), 1, Vec::new(rt.alloc()))?;
-        assert_eq!(rt; drill(inner, left, &[4; 4096]).acts(), acts, "{left} left");
-    }
-    Ok(())
 }

@@ -4,10 +4,10 @@ ghost use Rattle.std.specs.Prelude.{◌≡◌, ◌≢◌, ◌<◌, OnOk};
 ghost use Rattle.disk_model.specs.Past.{page_at};
 ghost use Rattle.disk_model.specs.Images.{SomeImage};
 
-use disk_model::{Disk, DiskFailed, QuietDisk};
-use std::test::Fail;
+use disk_model::{Disk, DiskFailed};
 
-fn read_both<D: Disk>(
+/// Reads two pages.
+pub fn read_both<D: Disk>(
     disk: &mut D,
     a: u32,
     b: u32,
@@ -22,18 +22,5 @@ fn read_both<D: Disk>(
 {
     disk.read(a, out_a)?;
     disk.read(b, out_b)?;
-    Ok(())
-}
-
-#[test]
-fn reads(rt: HostRuntime) -> Result<(), Fail> {
-    let mut disk = QuietDisk::make(rt.alloc(), 2)?;
-    let mut first = [1; 4096];
-    let mut second = [1; 4096];
-    assert_eq!(rt; disk.pages(), 2);
-    assert!(rt; disk.write(0, &[7; 4096]).is_ok());
-    assert!(rt; read_both(&mut disk, 1, 0, &mut first, &mut second).is_ok());
-    assert_eq!(rt; first[0], 0);
-    assert_eq!(rt; second[4095], 7);
     Ok(())
 }

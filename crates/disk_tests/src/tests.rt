@@ -1,6 +1,11 @@
 ghost use Rattle.std.specs.Prelude.{◌≡◌, ◌<◌};
 
-use disk_model::{CopyFault, Disk, FuseDisk, MemDisk, Pick, QuietDisk, RestartFault, restart};
+use crate::commit::commit;
+use crate::drill::drill;
+use crate::reads::read_both;
+use disk_model::{
+    CopyFault, Disk, FuseDisk, MemDisk, Pick, QuietDisk, RestartFault, restart, settle_pages,
+};
 use std::alloc::{AllocError, Global};
 use std::test::Fail;
 
@@ -178,5 +183,57 @@ fn copies(rt: HostRuntime) -> Result<(), Fail> {
     assert_eq!(rt; copy.pages(), 2);
     assert_eq!(rt; got(&mut copy, 0), Some(2));
     assert_eq!(rt; got(&mut copy, 1), Some(3));
+    Ok(())
+}
+
+#[test]
+fn commits(rt: HostRuntime) -> Result<(), Fail> {
+    let mut disk = QuietDisk::make(rt.alloc(), 7)?;
+    let mut chooser = [0; 4096];
+    chooser[0] = 2;
+    let pages = [[7; 4096], [8; 4096], [9; 4096]];
+    assert_eq!(rt; disk.pages(), 7);
+    assert!(rt; commit(&mut disk, 4, &pages, &chooser).is_ok());
+    let mut out = [0; 4096];
+    for (page, byte) in [(0, 2), (1, 0), (3, 0), (4, 7), (5, 8), (6, 9)] {
+        assert_eq!(rt; disk.pages(), 7);
+        assert!(rt; disk.read(page, &mut out).is_ok());
+        assert_eq!(rt; out[0], byte, "page {page}");
+    }
+    Ok(())
+}
+
+#[test]
+fn settles(rt: HostRuntime) -> Result<(), Fail> {
+    let pages = [[7; 4096], [8; 4096]];
+    // the call that fails; the acts
+    for (failing, acts) in [(0, 3), (1, 1), (2, 2), (3, 2)] {
+        let mut disk = MemDisk::make(rt.alloc(), 3, vec![in rt.alloc(); failing]?)?;
+        assert_eq!(rt; disk.pages(), 3);
+        assert_eq!(rt; settle_pages(&mut disk, 1, &pages).is_ok(), failing == 0);
+        assert_eq!(rt; disk.acts(), acts, "failing {failing}");
+    }
+    Ok(())
+}
+
+#[test]
+fn drills(rt: HostRuntime) -> Result<(), Fail> {
+    for (left, acts) in [(0, 1), (1, 1), (2, 3), (3, 3), (9, 3)] {
+        let inner = MemDisk::make(rt.alloc(), 1, Vec::new(rt.alloc()))?;
+        assert_eq!(rt; drill(inner, left, &[4; 4096]).acts(), acts, "{left} left");
+    }
+    Ok(())
+}
+
+#[test]
+fn reads(rt: HostRuntime) -> Result<(), Fail> {
+    let mut disk = QuietDisk::make(rt.alloc(), 2)?;
+    let mut first = [1; 4096];
+    let mut second = [1; 4096];
+    assert_eq!(rt; disk.pages(), 2);
+    assert!(rt; disk.write(0, &[7; 4096]).is_ok());
+    assert!(rt; read_both(&mut disk, 1, 0, &mut first, &mut second).is_ok());
+    assert_eq!(rt; first[0], 0);
+    assert_eq!(rt; second[4095], 7);
     Ok(())
 }

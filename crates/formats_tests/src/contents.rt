@@ -1,11 +1,11 @@
 //! Texts of contents and of packages.
 
-use crate::common::{ONES, TWOS, joined};
+use crate::common::{ONES, TWOS, joined, root_of_byte};
 use meta_contents::{
     AddFault, Contents, ContentsFault, PackageNameFault, read_contents, read_package,
     write_contents,
 };
-use pkg_names::{Root, read_file};
+use pkg_names::read_file;
 use std::alloc::{AllocError, Global};
 use std::test::Fail;
 
@@ -20,7 +20,7 @@ fn reads(rt: HostRuntime) -> Result<(), Fail> {
         assert_eq!(rt; lines.len(), 2);
         assert_eq!(rt; lines[0].file.as_slice(), b"data/a".as_slice());
         assert_eq!(rt; lines[1].file.as_slice(), b"a=b".as_slice());
-        assert!(rt; lines[0].root == Root([0x11; 32]));
+        assert!(rt; lines[0].root == root_of_byte(0x11));
         assert_eq!(rt; lines[1].root.0[0], 0xab);
         let written = write_contents(alloc, &contents)?;
         assert_eq!(rt; written.as_slice(), fed.as_slice());
@@ -85,14 +85,14 @@ fn limits(rt: HostRuntime) -> Result<(), Fail> {
         (b"x", AddFault::TooMany),
     ] {
         let file = read_file(alloc, path)?;
-        assert_eq!(rt; contents.add(file, Root([1; 32])), Err(fault));
+        assert_eq!(rt; contents.add(file, root_of_byte(1)), Err(fault));
     }
     assert_eq!(rt; contents.lines().len(), 4096);
     let mut few = Contents::new(alloc);
-    few.add(read_file(alloc, b"b")?, Root([0x11; 32]))?;
-    few.add(read_file(alloc, b"a")?, Root([0x11; 32]))?;
+    few.add(read_file(alloc, b"b")?, root_of_byte(0x11))?;
+    few.add(read_file(alloc, b"a")?, root_of_byte(0x11))?;
     assert_eq!(rt;
-        few.add(read_file(alloc, b"b")?, Root([2; 32])),
+        few.add(read_file(alloc, b"b")?, root_of_byte(2)),
         Err(AddFault::Repeat)
     );
     let written = write_contents(alloc, &few)?;

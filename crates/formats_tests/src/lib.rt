@@ -1,10 +1,9 @@
-//! Tests of the formats: Merkle roots, archives and contents, by their public calls.
+//! Tests of the formats: Merkle roots, archives and contents, by their public calls, and what they share.
 #![tactic(auto)]
 
 #[cfg(test)]
 mod archives;
-#[cfg(test)]
-mod common;
+pub mod common;
 #[cfg(test)]
 mod contents;
 #[cfg(test)]

@@ -1,5 +1,7 @@
-//! Tests of runs over repositories and streams in memory. Roots were computed outside.
+//! Tests of runs over repositories and streams in memory, and what they share. Roots were computed outside.
 #![tactic(auto)]
+
+pub mod set_up;
 
 #[cfg(test)]
 mod refusals;
@@ -7,5 +9,3 @@ mod refusals;
 mod repos;
 #[cfg(test)]
 mod runs;
-#[cfg(test)]
-mod set_up;

@@ -1,8 +1,8 @@
+use crate::set_up::bytes_of;
 use pkg_names::{
-    Bytes, FileFault, Items, PathFault, Root, RootFault, Roots, Texts, is_file, read_file,
-    read_path, read_root, write_path, write_root,
+    FileFault, Items, PathFault, Root, RootFault, Roots, Texts, is_file, read_file, read_path,
+    read_root, write_path, write_root,
 };
-use std::alloc::{AllocError, Global};
 use std::test::Fail;
 
 const DIGITS: &[u8; 64] = b"15ec7bf0b50732b49f8228e07d24365338f9e3ab994b00af08e5a3bffe55fd8b";
@@ -64,10 +64,10 @@ fn paths(rt: HostRuntime) -> Result<(), Fail> {
 
 #[test]
 fn lists(rt: HostRuntime) -> Result<(), Fail> {
-    let bytes = Bytes::make(b"hi".to_vec(rt.alloc())?);
+    let bytes = bytes_of(rt.alloc(), b"hi")?;
     assert_eq!(rt; bytes.as_slice(), b"hi".as_slice());
     assert!(rt; bytes.try_copy(rt.alloc())? == bytes);
-    assert!(rt; bytes != Bytes::make(b"ho".to_vec(rt.alloc())?));
+    assert!(rt; bytes != bytes_of(rt.alloc(), b"ho")?);
     assert_eq!(rt; bytes.into_vec().as_slice(), b"hi".as_slice());
     let roots = Roots::make(vec![in rt.alloc(); Root([7; 32]), Root([8; 32])]?);
     assert_eq!(rt; roots.as_slice().len(), 2);
@@ -78,10 +78,6 @@ fn lists(rt: HostRuntime) -> Result<(), Fail> {
     let text = Texts::make(String::from_str(rt.alloc(), "zbi")?);
     assert_eq!(rt; text.as_slice(), b"zbi".as_slice());
     Ok(())
-}
-
-fn bytes_of(alloc: Global, bytes: &[u8]) -> Result<Bytes, AllocError> {
-    Ok(Bytes::make(bytes.to_vec(alloc)?))
 }
 
 #[test]

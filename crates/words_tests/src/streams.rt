@@ -1,4 +1,4 @@
-use pkg_names::Bytes;
+use crate::set_up::bytes_of;
 use pkg_names::streams::{
     DropSink, FileSource, MemSink, MemSource, OutSink, Sink, SinkFailed, Source, SourceFailed,
 };
@@ -9,7 +9,7 @@ use std::{env, fs, process};
 // The calls 2 and 4 are to fail.
 #[test]
 fn sources(rt: HostRuntime) -> Result<(), Fail> {
-    let bytes = Bytes::make(b"abcdefg".to_vec(rt.alloc())?);
+    let bytes = bytes_of(rt.alloc(), b"abcdefg")?;
     let mut source = MemSource::make(bytes, vec![in rt.alloc(); 2, 4]?);
     let mut out = *b"...";
     assert_eq!(rt; source.take(&mut out), Ok(3));
