@@ -1,17 +1,12 @@
 -- The lines on standard error.
 use Rattle.std.specs.Prelude.{ℕ, ◌==◌, ◌||◌, nat_lt, List, [], ◌++◌, map, codes, Option, unwrap_or, if◌then◌else◌}
 use Rattle.std.specs.Fmt.{decimal}
+use Rattle.pkg_names.specs.Text.{space, question_mark}
 use Rattle.pkg_tool.specs.declared.running.Status.TheVariants.{Done, BadWords, BadScript, ScriptFault, SinkFault, NoMemory}
 use Rattle.pkg_tool.specs.declared.script.TextFault.{TextFault}
 use Rattle.pkg_tool.specs.declared.script.TextFault.TheVariants.{TooLong, TooMany, NoRequest}
 use Rattle.pkg_main.specs.declared.ending.Ending.{Ending}
 use Rattle.pkg_main.specs.declared.ending.Ending.TheVariants.{Ran, CannotOpen}
-
-abbrev pub space : ℕ
-space = 32
-
-abbrev pub question_mark : ℕ
-question_mark = 63
 
 abbrev pub delete : ℕ
 delete = 127
