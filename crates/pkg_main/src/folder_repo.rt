@@ -1,6 +1,7 @@
 //! A repository in a folder of the host.
 
-ghost use Rattle.std.specs.Prelude.{◌≡◌, ◌↔◌, ◌≤◌, ℕ, List, Option, None, Some, length, IfOk, IfSome, IsErrOf};
+ghost use Rattle.std.specs.Prelude.{◌≡◌, ◌↔◌, ◌≤◌, ℕ, List, Option, None, Some, length, IfOk, IfErr, IfSome};
+ghost use Rattle.std.specs.IoError.{error_kind};
 ghost use Rattle.std.specs.String.{string_bytes};
 ghost use Rattle.pkg_names.specs.Streams.{Rose};
 ghost use Rattle.pkg_tool.specs.Replies.{IfFound};
@@ -11,7 +12,7 @@ use pkg_names::{Bytes, Root};
 use pkg_tool::{FILE_LIMIT, FileReply, FirstRepo};
 use std::alloc::{AllocError, Global};
 use std::fs;
-use std::io::{ErrorKind, Read};
+use std::io::{self, ErrorKind, Read};
 use std::rt::Files;
 
 /// Regular files that are opened by their names.
@@ -21,9 +22,9 @@ pub(crate) trait BlobFiles {
     /// What the file of each name holds, if there is one, where that is told.
     ghost files: { Self → Option (List ℕ → Option (List ℕ)) };
 
-    fn open(&self, name: &str) -> Result<Self::File, ErrorKind>
+    fn open(&self, name: &str) -> io::Result<Self::File>
         ensures opened { IfOk result (λ file. Opens (files self.now) name.now (Self.File.Read.remaining file)) }
-        ensures missing { IsErrOf result ErrorKind.NotFound → HasAt (files self.now) name.now None };
+        ensures missing { IfErr result (λ e. error_kind e ≡ ErrorKind.NotFound → HasAt (files self.now) name.now None) };
 }
 
 /// The host's regular files. It doesn't tell what they hold.
@@ -44,13 +45,11 @@ impl<R: Files> BlobFiles for HostFiles<'_, R> {
     ghost files = { λ _. None };
 
     // A name that is no regular file, as a folder or a pipe, is not opened.
-    fn open(&self, name: &str) -> Result<R::File, ErrorKind> {
-        match fs::metadata(self.files, name) {
-            Ok(metadata) if metadata.is_file() => {
-                fs::open(self.files, name).map_err(|e| e.kind())
-            }
-            Ok(_) => Err(ErrorKind::InvalidInput),
-            Err(e) => Err(e.kind()),
+    fn open(&self, name: &str) -> io::Result<R::File> {
+        if fs::metadata(self.files, name)?.is_file() {
+            fs::open(self.files, name)
+        } else {
+            Err(io::Error::from(ErrorKind::InvalidInput))
         }
     }
 }
@@ -119,7 +118,7 @@ fn read_blob<B: BlobFiles>(files: &B, alloc: Global, folder: &str, root: &Root) 
     };
     match files.open(name.as_str()) {
         Ok(file) => read_whole(alloc, file),
-        Err(kind) => reply_of(kind),
+        Err(e) => reply_of(e.kind()),
     }
 }
 
