@@ -14,7 +14,6 @@ use std::alloc::{AllocFailed, Global};
 use std::marker::Model;
 use std::snapshot::Snapshot;
 use std::sync::Wait;
-use std::thread;
 
 const TICKET: usize = 0;
 
@@ -29,9 +28,6 @@ const PARKING: usize = 3;
 const PARKING_WORDS: u64 = 16;
 
 const WORDS: usize = 19;
-
-/// How often a waiting thread yields before it parks.
-const YIELDS: u32 = 64;
 
 /// The lock, with the value while no turn is out with it.
 #[derive(Drop)]
@@ -172,19 +168,13 @@ impl<T: Logged> Turn<T> {
         ensures came { came (log T.entries T.by T.origin T.held) place.old.me place.new.me }
     {
         let parking = parking(number);
-        let mut rounds = 0;
         for _ in rt.forever() {
             let before = self.board.shared.peek(parking);
             let found = self.board.shared.load::<Look>(place, SERVING);
             if found == number {
                 return;
             }
-            if rounds < YIELDS {
-                rounds += 1;
-                thread::yield_now();
-            } else {
-                self.park(rt, parking, before);
-            }
+            self.park(rt, parking, before);
         }
         unreachable!()
     }
