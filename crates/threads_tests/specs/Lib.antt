@@ -1,1 +1,3 @@
+pub mod Depot
 pub mod Notes
+pub mod Stations

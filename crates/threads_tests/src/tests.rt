@@ -1,4 +1,4 @@
 //! The lock over a list of numbers.
 mod bell;
 mod lanes;
-mod notes;
+mod stations;

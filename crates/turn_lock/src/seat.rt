@@ -1,5 +1,5 @@
 //! The tokens of the lock.
-use crate::board::{TableSeat, Stamp};
+use crate::board::{Stamp, TableSeat};
 use std::marker::Model;
 
 /// A lane's place at the lock.

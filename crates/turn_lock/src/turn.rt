@@ -6,7 +6,7 @@ ghost use Rattle.turn_lock.specs.Sitting.{Has, first_seat, mine, kept};
 ghost use Rattle.turn_lock.specs.Rule.{log, TakesTurn};
 ghost use Rattle.turn_lock.specs.Steps.{came, IsWaiting};
 
-use crate::board::{Board, TableSeat, Stamps};
+use crate::board::{Board, Stamps, TableSeat};
 use crate::logged::Logged;
 use crate::plays::{Cut, Look, Merge, Name, Serve, Stir, Take, Tell, Twin};
 use crate::seat::{Inside, Seat};

@@ -1,7 +1,7 @@
 //! The bell. No clause speaks of how often it rang.
 ghost use Rattle.std.specs.Prelude.{◌≡◌};
 
-use crate::tests::notes::{Note, Notes, add};
+use crate::notes::{Note, Notes, add};
 use std::alloc::{AllocError, Global};
 use std::rt::Clock;
 use std::sync::Wait;

@@ -3,7 +3,7 @@ ghost use Rattle.std.specs.Prelude.{◌≡◌, ◌≢◌, [], ◌≤◌, ◌<◌
 ghost use Rattle.turn_lock.specs.Entries.{entries_by};
 ghost use Rattle.turn_lock.specs.Sitting.{Has};
 
-use crate::tests::notes::{Note, Notes, add_all};
+use crate::notes::{Note, Notes, add_all};
 use std::alloc::{AllocError, Global};
 use std::rt::Clock;
 use std::sync::Wait;

@@ -1,6 +1,6 @@
 use Rattle.std.proofs.Common.{◌≡◌, ◌+◌, ◌≤◌, length}
 use Rattle.turn_lock.specs.Sitting.{mine}
-use Rattle.threads_tests.proofs.tests.notes.add_all.Given as goal
+use Rattle.threads_tests.proofs.notes.add_all.Given as goal
 
 abbrev pub invariant-loop-number : goal.invariant-loop-number
 invariant-loop-number g l = record {

@@ -2,7 +2,7 @@
 ghost use Rattle.std.specs.Prelude.{◌≡◌, ◌∷◌, ◌++◌, [], ◌+◌, length, OnOk, OnErr, map};
 ghost use Rattle.turn_lock.specs.Rule.{TakesTurn};
 ghost use Rattle.turn_lock.specs.Sitting.{mine};
-ghost use Rattle.threads_tests.specs.declared.tests.notes.Note.{Note};
+ghost use Rattle.threads_tests.specs.declared.notes.Note.{Note};
 ghost use Rattle.threads_tests.specs.Notes.{notes_log};
 
 use std::alloc::{AllocError, Global};
