@@ -24,7 +24,8 @@ pub(crate) trait BlobFiles {
 
     fn open(&self, name: &str) -> io::Result<Self::File>
         ensures opened { IfOk result (λ file. Opens (files self.now) name.now (Self.File.Read.remaining file)) }
-        ensures missing { IfErr result (λ e. error_kind e ≡ ErrorKind.NotFound → HasAt (files self.now) name.now None) };
+        ensures missing { IfErr result (λ e. error_kind e ≡ ErrorKind.NotFound
+            → HasAt (files self.now) name.now None) };
 }
 
 /// The host's regular files. It doesn't tell what they hold.
