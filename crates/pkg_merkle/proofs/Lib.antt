@@ -2,3 +2,5 @@ pub mod RootLemmas
 pub mod Growing
 pub mod Levels
 pub mod Feeding
+pub mod Inputs
+pub mod BindingLaw

@@ -62,7 +62,7 @@ length-hashes-one : (level : ℕ) (bytes : List ℕ) → length bytes ≤ 8192 �
 length-hashes-one level bytes short = ap length (hashes-one level bytes short) ∙ length-sha256 (block_input level 0 bytes)
 
 -- more than one block have fewer bytes of hashes than bytes
-shorter-hashes : (n level : ℕ) (bytes : List ℕ) → 8192 < length bytes → length bytes ≤ suc n → length (hashes level bytes) ≤ n
+pub shorter-hashes : (n level : ℕ) (bytes : List ℕ) → 8192 < length bytes → length bytes ≤ suc n → length (hashes level bytes) ≤ n
 shorter-hashes n level bytes long within =
     let total = length-first_hashes level bytes (block_count bytes) in
     omega (arith, total)
@@ -101,7 +101,7 @@ unfolding merkle_root
 length-merkle_root bytes = length-root_above (length bytes) 0 bytes (omega arith)
 
 -- a level of one block is hashed once
-level_inputs-one : (level : ℕ) (bytes : List ℕ) → length bytes ≤ 8192 → level_inputs level bytes ≡ block_input level 0 bytes ∷ []
+pub level_inputs-one : (level : ℕ) (bytes : List ℕ) → length bytes ≤ 8192 → level_inputs level bytes ≡ block_input level 0 bytes ∷ []
 unfolding first_inputs
 level_inputs-one level bytes short =
     let one = block_count-one bytes short in
@@ -125,14 +125,14 @@ HashesLast-append first from hash h = record {
   hashed = h.hashed;
 }
 
-inputs_above-one : (n level : ℕ) (bytes : List ℕ) → length bytes ≤ 8192 → inputs_above n level bytes ≡ level_inputs level bytes
+pub inputs_above-one : (n level : ℕ) (bytes : List ℕ) → length bytes ≤ 8192 → inputs_above n level bytes ≡ level_inputs level bytes
 unfolding inputs_above
 inputs_above-one zero level bytes short = refl
 inputs_above-one (suc n) level bytes short =
     let one : block_count bytes ≡ 1 = omega arith in
     grind (arith, nat_tests)
 
-inputs_above-more : (n level : ℕ) (bytes : List ℕ) → 8192 < length bytes
+pub inputs_above-more : (n level : ℕ) (bytes : List ℕ) → 8192 < length bytes
     → inputs_above (suc n) level bytes ≡ level_inputs level bytes ++ inputs_above n (suc level) (hashes level bytes)
 unfolding inputs_above
 inputs_above-more n level bytes long =

@@ -1,2 +1,3 @@
 pub mod Merkle
 pub mod Hasher
+pub mod Binding

@@ -3,7 +3,7 @@
 ghost use Rattle.std.specs.Prelude.{◌≡◌, ◌<◌, ◌≤◌, ◌^◌, ℕ, List, ◌++◌, length, replicate};
 ghost use Rattle.sha2.specs.Hashers.{Holds256};
 ghost use Rattle.sha2.specs.Sha256.{sha256};
-ghost use Rattle.pkg_merkle.specs.Merkle.{head, block_input};
+ghost use Rattle.pkg_merkle.specs.Merkle.{head, told_size, block_input};
 
 use sha2::{Digest, Sha256};
 
@@ -37,13 +37,20 @@ pub(crate) fn add_zeros(hasher: &mut Sha256, count: usize)
     }
 }
 
-/// The hash of the data block `index` with these contents.
-pub(crate) fn block_hash(index: usize, contents: &[u8]) -> [u8; 32]
+/// The size in the head: a data block's own, and that of a whole block for a block of hashes.
+pub(crate) fn told_size(level: usize, contents: &[u8]) -> usize
+    ensures { result ≡ told_size level contents.now }
+{
+    if level == 0 { contents.len() } else { BLOCK }
+}
+
+/// The hash of block `index` of this level, with these contents.
+pub(crate) fn block_hash(level: usize, index: usize, contents: &[u8]) -> [u8; 32]
     requires index { index < 2 ^ 51 }
     requires size { length contents.now ≤ BLOCK }
-    ensures { result ≡ sha256 (block_input 0 index contents.now) }
+    ensures { result ≡ sha256 (block_input level index contents.now) }
 {
-    let mut hasher = opened(0, index, contents.len());
+    let mut hasher = opened(level, index, told_size(level, contents));
     hasher.update(contents);
     add_zeros(&mut hasher, (BLOCK - contents.len()) % BLOCK);
     hasher.finalize()

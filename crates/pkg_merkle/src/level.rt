@@ -10,7 +10,7 @@ use sha2::{Digest, Sha256};
 use std::mem;
 
 /// The bytes of a hash.
-const HASH: usize = 32;
+pub(crate) const HASH: usize = 32;
 
 /// The hashes in a whole block.
 pub(crate) const HASHES: usize = 256;

@@ -44,7 +44,7 @@ impl Tree {
         ensures { (bytes : List ℕ) → block bytes index ≡ contents.now
             → TreeHolds self.old bytes index → TreeHolds self.new bytes (index + 1) }
     {
-        let hash = block_hash(index, contents);
+        let hash = block_hash(0, index, contents);
         self.add_hash(index, &hash);
     }
 

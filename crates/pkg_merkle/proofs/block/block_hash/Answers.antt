@@ -4,7 +4,7 @@ use Rattle.pkg_merkle.proofs.block.block_hash.Goals as goal
 pub returns : goal.returns
 unfolding block_input
 returns c =
-    let start = c.opened-hasher.ensures in
+    let start = rw c.told_size.ensures at c.opened-hasher.ensures in
     let held = c.update.ensures _ start in
     let filled = c.add_zeros.ensures _ held in
     c.finalize.ensures _ filled
