@@ -2,7 +2,7 @@
 
 ghost use Rattle.std.specs.Prelude.{◌≡◌, ◌<◌, IfOk, vec_len};
 
-use pkg_merkle::{BYTES_LIMIT, Hasher, TooLong, root_of};
+use pkg_merkle::{BYTES_LIMIT, Binding, Hasher, TooLong, root_of, same_or_collision};
 use pkg_names::{Root, read_root};
 use std::alloc::{AllocError, Global};
 use std::process::Abort;
@@ -92,5 +92,20 @@ fn limit(rt: HostRuntime) -> Result<(), Fail> {
     assert_eq!(rt; hasher.update(b""), Ok(()));
     let whole = b"53bfc3735d932e2cb4f1a2d1f5f0a12889f9eda2cd8da77d16a4b194804f5af1";
     assert_eq!(rt; hasher.finish(), read_root(whole)?);
+    Ok(())
+}
+
+#[test]
+fn equal_blobs(rt: HostRuntime) -> Result<(), Fail> {
+    assert_eq!(rt; same_or_collision(rt.alloc(), b"hi", b"hi")?, Binding::Same);
+    for count in [0, 20_000, 2_097_153] {
+        let bytes = sample(rt.alloc(), count)?;
+        let copy = Vec::from_slice(rt.alloc(), &bytes)?;
+        assert_eq!(rt;
+            same_or_collision(rt.alloc(), &bytes, &copy)?,
+            Binding::Same,
+            "{count} bytes"
+        );
+    }
     Ok(())
 }
