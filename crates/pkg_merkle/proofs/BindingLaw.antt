@@ -11,7 +11,7 @@ use Rattle.pkg_merkle.specs.Merkle.{block, block_count, block_input, first_input
 use Rattle.pkg_merkle.specs.declared.binding.Binding.{Binding}
 use Rattle.pkg_merkle.specs.declared.binding.Binding.TheVariants.{Same, Collision, ZeroDigest}
 use Rattle.pkg_merkle.specs.Binding.{zero_digest, IsFreeOfCollisions, Collide, HasZeroDigest, IsFound, IsLevel, IsTop}
-use Rattle.pkg_merkle.proofs.RootLemmas.{first_hashes-suc, length-first_hashes, root_above-one, root_above-more, root_above-same, hashes-one, level_inputs-one, inputs_above-one, inputs_above-more, shorter-hashes}
+use Rattle.pkg_merkle.proofs.RootLemmas.{first_hashes-suc, length-first_hashes, root_above-one, root_above-more, root_above-same, levels-same, hashes-one, level_inputs-one, inputs_above-one, inputs_above-more, shorter-hashes}
 use Rattle.pkg_merkle.proofs.Inputs.{input-level, same_contents, length-block, IsLevel-block}
 
 -- every member of the first list is one of the second
@@ -110,20 +110,7 @@ root_above-step level bytes long =
     ∙ root_above-same (length bytes) (length (hashes level bytes)) (suc level) (hashes level bytes) less (omega arith)
 
 inputs_above-same : (m n level : ℕ) (bytes : List ℕ) → length bytes ≤ m → length bytes ≤ n → inputs_above m level bytes ≡ inputs_above n level bytes
-inputs_above-same zero n level bytes within within' =
-    let short : length bytes ≤ 8192 = omega arith in
-    inputs_above-one zero level bytes short ∙ sym (inputs_above-one n level bytes short)
-inputs_above-same (suc m) zero level bytes within within' =
-    let short : length bytes ≤ 8192 = omega arith in
-    inputs_above-one (suc m) level bytes short ∙ sym (inputs_above-one zero level bytes short)
-inputs_above-same (suc m) (suc n) level bytes within within' =
-    elim (cases_lt 8192 (length bytes)) [
-      | inr short ↦ inputs_above-one (suc m) level bytes short ∙ sym (inputs_above-one (suc n) level bytes short)
-      | inl long ↦ inputs_above-more m level bytes long
-          ∙ ap (λ (rest : List (List ℕ)). level_inputs level bytes ++ rest)
-          (inputs_above-same m n (suc level) (hashes level bytes) (shorter-hashes m level bytes long within) (shorter-hashes n level bytes long within'))
-          ∙ sym (inputs_above-more n level bytes long)
-    ]
+inputs_above-same = levels-same inputs_above level_inputs (λ level bytes above. level_inputs level bytes ++ above) inputs_above-one inputs_above-more
 
 inputs_above-step : (level : ℕ) (bytes : List ℕ) → 8192 < length bytes
     → inputs_above (length bytes) level bytes ≡ level_inputs level bytes ++ inputs_above (length (hashes level bytes)) (suc level) (hashes level bytes)

@@ -79,21 +79,28 @@ length-root_above (suc n) level bytes within =
           ∙ length-root_above n (suc level) (hashes level bytes) (shorter-hashes n level bytes long within)
     ]
 
--- and more levels leave the same hash
-pub root_above-same : (m n level : ℕ) (bytes : List ℕ) → length bytes ≤ m → length bytes ≤ n → root_above m level bytes ≡ root_above n level bytes
-root_above-same zero n level bytes within within' =
+-- and more levels change nothing of what is made level by level
+pub levels-same : {X : Type 0} (made : ℕ → ℕ → List ℕ → X) (top : ℕ → List ℕ → X) (step : ℕ → List ℕ → X → X)
+    → ((n level : ℕ) (bytes : List ℕ) → length bytes ≤ 8192 → made n level bytes ≡ top level bytes)
+    → ((n level : ℕ) (bytes : List ℕ) → 8192 < length bytes → made (suc n) level bytes ≡ step level bytes (made n (suc level) (hashes level bytes)))
+    → (m n level : ℕ) (bytes : List ℕ) → length bytes ≤ m → length bytes ≤ n → made m level bytes ≡ made n level bytes
+levels-same made top step one more zero n level bytes within within' =
     let short : length bytes ≤ 8192 = omega arith in
-    root_above-one zero level bytes short ∙ sym (root_above-one n level bytes short)
-root_above-same (suc m) zero level bytes within within' =
+    one zero level bytes short ∙ sym (one n level bytes short)
+levels-same made top step one more (suc m) zero level bytes within within' =
     let short : length bytes ≤ 8192 = omega arith in
-    root_above-one (suc m) level bytes short ∙ sym (root_above-one zero level bytes short)
-root_above-same (suc m) (suc n) level bytes within within' =
+    one (suc m) level bytes short ∙ sym (one zero level bytes short)
+levels-same made top step one more (suc m) (suc n) level bytes within within' =
     elim (cases_lt 8192 (length bytes)) [
-      | inr short ↦ root_above-one (suc m) level bytes short ∙ sym (root_above-one (suc n) level bytes short)
-      | inl long ↦ root_above-more m level bytes long
-          ∙ root_above-same m n (suc level) (hashes level bytes) (shorter-hashes m level bytes long within) (shorter-hashes n level bytes long within')
-          ∙ sym (root_above-more n level bytes long)
+      | inr short ↦ one (suc m) level bytes short ∙ sym (one (suc n) level bytes short)
+      | inl long ↦ more m level bytes long
+          ∙ ap (step level bytes)
+          (levels-same made top step one more m n (suc level) (hashes level bytes) (shorter-hashes m level bytes long within) (shorter-hashes n level bytes long within'))
+          ∙ sym (more n level bytes long)
     ]
+
+pub root_above-same : (m n level : ℕ) (bytes : List ℕ) → length bytes ≤ m → length bytes ≤ n → root_above m level bytes ≡ root_above n level bytes
+root_above-same = levels-same root_above hashes (λ level bytes above. above) root_above-one root_above-more
 
 -- the root has 32 bytes
 pub length-merkle_root : (bytes : List ℕ) → length (merkle_root bytes).0 ≡ 32
