@@ -1,0 +1,5 @@
+mod Once
+pub mod NameLaws
+mod BookLaws
+mod Shelves
+mod Lines

@@ -1,22 +1,34 @@
--- The blobs that a package names. Until packages have books each names itself alone. What stands above
--- uses the three laws at the end, and never these definitions; only the store in memory, which computes
--- the list, uses that there is nothing but the package itself.
-use Rattle.std.specs.Prelude.{◌≡◌, ℕ, zero, ◌⊎◌, List, [], ◌∷◌, Option, Some, None, Contains, refl}
-use Rattle.std.proofs.Common.{inl, arith}
+-- The blobs that a package names, by its book. What stands above knows names and levels by the three
+-- laws at the end; only what computes the list knows the definitions.
+use Rattle.std.specs.Prelude.{◌≡◌, List, [], ◌∷◌, Option, Some, None, Result, Ok, Err, Contains}
 use Rattle.pkg_names.specs.declared.root.Root.{Root}
+use Rattle.package_book.specs.declared.fault.PackageFault.{PackageFault}
 use Rattle.package_book.specs.Books.{Meta, Books, book_at}
+use Rattle.package_book.specs.Books.Meta.{Read, Long}
+use Rattle.package_book.specs.Book.{MetaAndFiles, book, outer_roots, each_once}
+
+abbrev pub roots_from : Result MetaAndFiles PackageFault → List Root
+roots_from (Ok found) = outer_roots found.outer
+roots_from (Err fault) = []
+
+-- the blobs that a meta blob lists: the outer roots of its book, and none where it is no book
+unfoldable pub listed_roots : Meta → List Root
+listed_roots (Read bytes) = roots_from (book bytes)
+listed_roots (Long len) = []
+
+abbrev pub roots_known : Option Meta → List Root
+roots_known None = []
+roots_known (Some meta) = listed_roots meta
 
 -- the packages whose books give the names of a package: itself
-pub levels : Root → Books → List Root
+unfoldable pub levels : Root → Books → List Root
 levels top books = top ∷ []
 
--- the names of a package: itself, and then the blobs that its book lists, each once
-pub names : Root → Books → List Root
-names top books = top ∷ []
+-- the names of a package: itself, and then the outer roots of its book in the order of their lines, each once
+unfoldable pub names : Root → Books → List Root
+names top books = each_once (top ∷ roots_known (book_at books top))
 
--- the blobs that a meta blob lists
-pub outer_roots : Meta → List Root
-outer_roots meta = []
+-- ---- the three laws
 
 -- the package is in its levels, and each root of its levels is among its names
 pub record HasItself (top : Root) (books : Books) : Type 0 where
@@ -38,23 +50,4 @@ pub record IsListed (top root : Root) (books : Books) : Type 0 where
   pub meta : Meta
   pub level : Contains (levels top books) by
   pub known : book_at books by ≡ Some meta
-  pub listed : Contains (outer_roots meta) root
-
-pub has_itself : (top : Root) (books : Books) → HasItself top books
-unfolding levels names
-has_itself top books = record { level = (0, omega arith, refl); named = λ root h. h }
-
-pub depends_on : (top : Root) (books others : Books)
-    → AgreeOn (levels top books) books others → DependsOn top books others
-unfolding levels names
-depends_on top books others agree = record { levels = refl; names = refl }
-
-pub is_listed : (top root : Root) (books : Books)
-    → Contains (names top books) root → Contains (levels top books) root ⊎ IsListed top root books
-unfolding levels names
-is_listed top root books named = inl named
-
--- until packages have books
-pub names_alone : (top : Root) (books : Books) → names top books ≡ top ∷ []
-unfolding names
-names_alone top books = refl
+  pub listed : Contains (listed_roots meta) root

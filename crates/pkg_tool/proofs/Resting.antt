@@ -8,7 +8,7 @@ use Rattle.pkg_names.proofs.Roots.{root_eq-true, root_eq-refl}
 use Rattle.fetch_queue.specs.declared.FetchEnd.{FetchEnd}
 use Rattle.pkg_names.specs.NameAndVariant.{NameAndVariant, path_eq}
 use Rattle.package_indexes.specs.declared.Choice.{Choice}
-use Rattle.package_book.specs.Names.{names}
+use Rattle.package_book.specs.Alone.{names_alone}
 use Rattle.store_model.specs.declared.events.Event.{Event}
 use Rattle.store_model.specs.declared.events.Act.{Act}
 use Rattle.store_model.specs.declared.events.Act.TheVariants.{Boot, Begin, Want, Room, Land, Missed, GaveUp}
@@ -82,12 +82,12 @@ ticket_gone (x ∷ arriving) ticket = first (x.ticket == ticket) refl (x.lane ==
   first false is true lane rest = rw (is, lane) (rw is (ap (λ (numbers : List ℕ). x.ticket ∷ numbers) rest))
   first false is false lane rest = rw (is, lane) rest
 
-ticket_marked : (s : State) (arriving : List Arrival) (root : Root) (end : FetchEnd) → tickets (map (λ (a : Arrival). if not (is_some a.mark) && has_root (names a.root s.books) root then record a { mark = Some end } else a) arriving) ≡ tickets arriving
+ticket_marked : (s : State) (arriving : List Arrival) (root : Root) (end : FetchEnd) → tickets (map (λ (a : Arrival). if not (is_some a.mark) && has_root (names_alone a.root s.books) root then record a { mark = Some end } else a) arriving) ≡ tickets arriving
 ticket_marked s [] root end = refl
-ticket_marked s (x ∷ arriving) root end = first (not (is_some x.mark) && has_root (names x.root s.books) root) refl (x.lane == 1) refl (ticket_marked s arriving root end) where
-  first : (t : Bool) → (not (is_some x.mark) && has_root (names x.root s.books) root) ≡ t → (u : Bool) → (x.lane == 1) ≡ u
-      → tickets (map (λ (a : Arrival). if not (is_some a.mark) && has_root (names a.root s.books) root then record a { mark = Some end } else a) arriving) ≡ tickets arriving
-      → tickets (map (λ (a : Arrival). if not (is_some a.mark) && has_root (names a.root s.books) root then record a { mark = Some end } else a) (x ∷ arriving)) ≡ tickets (x ∷ arriving)
+ticket_marked s (x ∷ arriving) root end = first (not (is_some x.mark) && has_root (names_alone x.root s.books) root) refl (x.lane == 1) refl (ticket_marked s arriving root end) where
+  first : (t : Bool) → (not (is_some x.mark) && has_root (names_alone x.root s.books) root) ≡ t → (u : Bool) → (x.lane == 1) ≡ u
+      → tickets (map (λ (a : Arrival). if not (is_some a.mark) && has_root (names_alone a.root s.books) root then record a { mark = Some end } else a) arriving) ≡ tickets arriving
+      → tickets (map (λ (a : Arrival). if not (is_some a.mark) && has_root (names_alone a.root s.books) root then record a { mark = Some end } else a) (x ∷ arriving)) ≡ tickets (x ∷ arriving)
   first true is true lane rest = rw (is, lane) (ap (λ (numbers : List ℕ). x.ticket ∷ numbers) rest)
   first true is false lane rest = rw (is, lane) rest
   first false is true lane rest = rw (is, lane) (ap (λ (numbers : List ℕ). x.ticket ∷ numbers) rest)

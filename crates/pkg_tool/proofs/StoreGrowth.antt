@@ -9,7 +9,7 @@ use Rattle.pkg_names.specs.declared.root.Root.{Root}
 use Rattle.pkg_names.specs.declared.pinned.Pinned.{Pinned}
 use Rattle.pkg_merkle.specs.Merkle.{merkle_root}
 use Rattle.pkg_names.specs.Root.{root_eq}
-use Rattle.package_book.specs.Names.{names_alone}
+use Rattle.package_book.specs.Alone.{names_alone-itself}
 use Rattle.package_indexes.specs.declared.Choice.TheVariants as choices
 use Rattle.package_indexes.specs.Indexes.{roots_of, root_at, with_root}
 use Rattle.store_model.specs.declared.events.Act.TheVariants as acts
@@ -179,7 +179,7 @@ opens blobs opened ticket root s number later is m =
       whole = refl;
       boots = sym later;
       goes_on = refl;
-      due = rw (eq-eqb ticket ticket refl) (record { lane = refl; free = refl; answer = rw (names_alone root s.books, is) refl });
+      due = rw (eq-eqb ticket ticket refl) (record { lane = refl; free = refl; answer = rw (names_alone-itself root s.books, is) refl });
       looked = subst (λ (x : State). HasLooked [] x) (sym next_is) looked;
       seen = tt;
     } in

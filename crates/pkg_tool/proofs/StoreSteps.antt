@@ -7,7 +7,7 @@ use Rattle.fetch_queue.specs.declared.FetchEnd.{FetchEnd}
 use Rattle.pkg_names.specs.declared.root.Root.{Root}
 use Rattle.pkg_names.specs.Root.{root_eq}
 use Rattle.package_book.specs.Books.{Books}
-use Rattle.package_book.specs.Names.{names, names_alone}
+use Rattle.package_book.specs.Alone.{names_alone, names_alone-itself}
 use Rattle.store_model.specs.declared.events.Act.{Act}
 use Rattle.store_model.specs.declared.events.Act.TheVariants as acts
 use Rattle.store_model.specs.declared.events.LookedAt.{LookedAt}
@@ -93,8 +93,8 @@ plain blobs opened held held' s number later m act arriving claims is arrives cl
     })
 
 -- a package names itself
-names_itself : (root : Root) (books : Books) → has_root (names root books) root ≡ true
-names_itself root books = rw (names_alone root books, root_eq-refl root) refl
+names_itself : (root : Root) (books : Books) → has_root (names_alone root books) root ≡ true
+names_itself root books = rw (names_alone-itself root books, root_eq-refl root) refl
 
 pub gives_up : (blobs : List LookedAt) (opened : List Root) (ticket : ℕ) (root : Root) (mark : Option FetchEnd) (s : State) (number : ℕ) → (number == 1) ≡ false
     → Mirrors blobs opened (Ticket ticket root mark) s → Goes s number (by_lane (acts.GaveUp ticket)) blobs opened Nothing
@@ -134,7 +134,7 @@ pub grants : (blobs : List LookedAt) (opened : List Root) (ticket : ℕ) (root :
     → Mirrors blobs opened (Ticket ticket root None) s → Goes s number (by_lane (acts.Want ticket (wants.Fetch root))) blobs opened (Claim ticket root None)
 grants blobs opened ticket root s number later missing m =
     plain blobs opened (Ticket ticket root None) (Claim ticket root None) s number later m (acts.Want ticket (wants.Fetch root)) _ _
-    (record { next = refl; unseen = refl; later = refl; due = rw (eq-eqb ticket ticket refl) (record { lane = refl; free = refl; answer = rw (names_alone root s.books, missing) refl }) }) refl refl missing (λ x h. h)
+    (record { next = refl; unseen = refl; later = refl; due = rw (eq-eqb ticket ticket refl) (record { lane = refl; free = refl; answer = rw (names_alone-itself root s.books, missing) refl }) }) refl refl missing (λ x h. h)
 
 -- the store as it is opened
 pub booted : (spare : ℕ) → IsStore (record { lane = 0; act = acts.Boot slots.A []; broke = false } ∷ []) spare [] [] Nothing

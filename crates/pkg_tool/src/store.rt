@@ -15,7 +15,7 @@ ghost use Rattle.pkg_tool.specs.Mirrors.{blob_at, looked_blobs, missing_of};
 use crate::history::History;
 use abr_record::Slot;
 use fetch_queue::FetchEnd;
-use package_book::names_of;
+use package_book::names_alone;
 use package_indexes::Choice;
 use pkg_merkle::{BYTES_LIMIT, root_of};
 use pkg_names::{Bytes, PackagePath, Root};
@@ -286,7 +286,7 @@ fn mark_of(why: Miss) -> Option<FetchEnd>
 fn missing(alloc: Global, blobs: &[LookedAt], root: &Root) -> Result<Option<Root>, AllocError>
     ensures { IfOk result (λ name. name ≡ missing_of blobs.now root.now) }
 {
-    let names = names_of(alloc, root)?;
+    let names = names_alone(alloc, root)?;
     Ok(first_missing(blobs, names.as_slice()))
 }
 

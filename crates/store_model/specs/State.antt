@@ -12,7 +12,7 @@ use Rattle.pkg_names.specs.declared.root.Root.{Root}
 use Rattle.pkg_names.specs.declared.pinned.Pinned.{Pinned}
 use Rattle.pkg_names.specs.Root.{root_eq}
 use Rattle.package_book.specs.Books.{Books}
-use Rattle.package_book.specs.Names.{names}
+use Rattle.package_book.specs.Alone.{names_alone}
 use Rattle.package_indexes.specs.Indexes.{protected}
 
 -- a blob that is stored
@@ -165,5 +165,5 @@ protected_in s =
 -- and has no mark yet is marked
 abbrev pub marked_arrivals : State → Root → FetchEnd → List Arrival
 marked_arrivals s root end =
-    map (λ (a : Arrival). if not (is_some a.mark) && has_root (names a.root s.books) root
+    map (λ (a : Arrival). if not (is_some a.mark) && has_root (names_alone a.root s.books) root
     then record a { mark = Some end } else a) s.arriving

@@ -4,7 +4,7 @@ use Rattle.std.specs.List.{list_all}
 use Rattle.pkg_names.specs.declared.root.Root.{Root}
 use Rattle.pkg_names.specs.declared.pinned.Pinned.{Pinned}
 use Rattle.fetch_queue.specs.declared.FetchEnd.{FetchEnd}
-use Rattle.package_book.specs.Names.{names}
+use Rattle.package_book.specs.Alone.{names_alone}
 use Rattle.package_indexes.specs.Indexes.{root_at, with_root}
 use Rattle.store_model.specs.declared.events.WantEnd.{WantEnd}
 use Rattle.store_model.specs.declared.events.WantEnd.TheVariants.{Fetch, Opened, Failed}
@@ -13,7 +13,7 @@ use Rattle.store_model.specs.State.{State, Stored, Claim, Arrival, Directory, is
 
 -- all blobs that the package names are stored
 abbrev pub is_complete : State → Root → Bool
-is_complete s root = list_all (is_stored s.stock) (names root s.books)
+is_complete s root = list_all (is_stored s.stock) (names_alone root s.books)
 
 -- the first of the roots that is neither stored nor claimed
 abbrev pub first_free : List Stored → List Claim → List Root → Option Root
@@ -30,7 +30,7 @@ answer_for None false None = None
 -- The answer to the holder. There is none while others fetch all that is missing.
 abbrev pub want_answer : State → Arrival → Option WantEnd
 want_answer s arrival =
-    answer_for arrival.mark (is_complete s arrival.root) (first_free s.stock s.claims (names arrival.root s.books))
+    answer_for arrival.mark (is_complete s arrival.root) (first_free s.stock s.claims (names_alone arrival.root s.books))
 
 pub record IsAnswered (s : State) (by : ℕ) (reply : WantEnd) (arrival : Arrival) : Type 0 where
   pub lane : arrival.lane ≡ by
