@@ -1,0 +1,3 @@
+mod CrcLemmas
+pub mod ByteLemmas
+mod SettlingLemmas

@@ -1,1 +1,5 @@
 pub mod Boot
+pub mod Bytes
+pub mod Crc
+pub mod Marks
+pub mod Settling

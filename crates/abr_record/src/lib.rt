@@ -1,11 +1,22 @@
-//! The boot record: which slot boots, and how often it may still be tried.
+//! The boot record: which slot boots, how often it may still be tried, and its bytes.
 //!
-//! `docs/formats.md` of the repository has its rules.
+//! `docs/boot_record.md` of the repository has its rules and its format.
 #![tactic(auto)]
 
+mod booting;
+mod bytes;
+mod crc;
 mod laws;
+mod marks;
+mod settling;
 
-pub use laws::which_slot_boots;
+pub use booting::{boot, bootable};
+pub use bytes::{decode, encode};
+pub use laws::{
+    boots_take_tries, changes_are_seen, marks_decide_boots, settling_is_unique, which_slot_boots,
+};
+pub use marks::{commit, initial, mark_active, mark_unbootable};
+pub use settling::{Settled, settles};
 
 /// A slot that can boot. `R` is recovery.
 #[derive(Clone, Copy, Debug, PartialEq, Eq)]
@@ -33,3 +44,6 @@ pub struct Record {
     /// Not 0: the next boot is recovery, once.
     pub one_shot: u8,
 }
+
+#[cfg(test)]
+mod tests;
