@@ -1,0 +1,5 @@
+pub mod Places
+pub mod PathTests
+mod PartTexts
+mod Written
+mod Faults
