@@ -1,7 +1,15 @@
 //! The fetches under way: which lane fetches which root, and how a fetch ended.
 #![tactic(auto)]
 
+mod laws;
+mod queue;
+
+pub use laws::{claims_come_and_go, first_marks_stay};
 use pkg_names::Root;
+pub use queue::{ClaimEntry, MarkEntry, Queue};
+
+#[cfg(test)]
+mod tests;
 
 /// How a fetch ended without its blob.
 #[derive(Clone, Copy, Debug, PartialEq, Eq)]
