@@ -1,8 +1,7 @@
 //! Archives: two against the bytes of another program, and one fault at a time.
 
-use crate::common::{ONES, TWOS, joined};
-use far_archive::{FarEntry, FarFault, WriteFault, read_far, write_far};
-use pkg_names::{Bytes, read_file};
+use crate::common::{ONES, TWOS, entries_of, joined};
+use far_archive::{FarFault, WriteFault, read_far, write_far};
 use std::alloc::{AllocError, Global};
 use std::test::Fail;
 
@@ -149,13 +148,7 @@ fn lengths(rt: HostRuntime) -> Result<(), Fail> {
 
 // What the writer makes of these files.
 fn write(alloc: Global, files: &[(&[u8], &[u8])]) -> Result<Result<Vec<u8>, WriteFault>, Fail> {
-    let mut entries = Vec::new(alloc);
-    for (name, bytes) in files {
-        entries.push(FarEntry {
-            name: read_file(alloc, name)?,
-            bytes: Bytes::make(bytes.to_vec(alloc)?),
-        })?;
-    }
+    let entries = entries_of(alloc, files)?;
     if entries.len() > 100 {
         return Ok(Err(WriteFault::NoMemory));
     }

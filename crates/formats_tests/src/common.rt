@@ -1,8 +1,9 @@
 //! What several tests share.
 
-ghost use Rattle.std.specs.Prelude.{◌≡◌, replicate};
+ghost use Rattle.std.specs.Prelude.{◌≡◌, length, replicate, vec_len, IfOk};
 
-use pkg_names::Root;
+use far_archive::FarEntry;
+use pkg_names::{Bytes, FileFault, Root, read_file};
 use std::alloc::{AllocError, Global};
 
 /// The text of a root.
@@ -25,4 +26,19 @@ pub fn root_of_byte(byte: u8) -> Root
     ensures { result.0 ≡ replicate 32 byte }
 {
     Root([byte; 32])
+}
+
+/// These files as entries of an archive, each with its name and its bytes.
+pub fn entries_of(alloc: Global, files: &[(&[u8], &[u8])]) -> Result<Vec<FarEntry>, FileFault>
+    ensures { IfOk result (λ entries. vec_len entries ≡ length files.now) }
+{
+    let mut entries = Vec::new(alloc);
+    for (name, bytes) in files {
+        let name = read_file(alloc, name)?;
+        let bytes = Bytes::make(bytes.to_vec(alloc)?);
+        if entries.push(FarEntry { name, bytes }).is_err() {
+            return Err(FileFault::NoMemory);
+        }
+    }
+    Ok(entries)
 }

@@ -1,8 +1,10 @@
-//! Tests of the formats: Merkle roots, archives and contents, by their public calls, and what they share.
+//! Tests of the formats: Merkle roots, archives, contents and books, by their public calls, and what they share.
 #![tactic(auto)]
 
 #[cfg(test)]
 mod archives;
+#[cfg(test)]
+mod books;
 pub mod common;
 #[cfg(test)]
 mod contents;
