@@ -30,7 +30,8 @@ answer_for None false None = None
 -- The answer to the holder. There is none while others fetch all that is missing.
 abbrev pub want_answer : State → Arrival → Option WantEnd
 want_answer s arrival =
-    answer_for arrival.mark (is_complete s arrival.root) (first_free s.stock s.claims (names_alone arrival.root s.books))
+    answer_for arrival.mark (is_complete s arrival.root)
+    (first_free s.stock s.claims (names_alone arrival.root s.books))
 
 pub record IsAnswered (s : State) (by : ℕ) (reply : WantEnd) (arrival : Arrival) : Type 0 where
   pub lane : arrival.lane ≡ by
