@@ -20,11 +20,13 @@ fn each_part(rt: HostRuntime) -> Result<(), Fail> {
     let root = read_root(DIGITS)?;
     for (text, variant, pinned, file, written) in [
         (
-            b"fuchsia-pkg://fuchsia.com/example/1?hash=abcdef0123456789abcdef0123456789abcdef0123456789abcdef0123456789#meta/example.cm".as_slice(),
+            b"fuchsia-pkg://fuchsia.com/example/1?hash=\
+              abcdef0123456789abcdef0123456789abcdef0123456789abcdef0123456789#meta/example.cm".as_slice(),
             b"1".as_slice(),
             true,
             Some(b"meta/example.cm".as_slice()),
-            b"fuchsia-pkg://fuchsia.com/example/1?hash=abcdef0123456789abcdef0123456789abcdef0123456789abcdef0123456789#meta/example.cm".as_slice(),
+            b"fuchsia-pkg://fuchsia.com/example/1?hash=\
+              abcdef0123456789abcdef0123456789abcdef0123456789abcdef0123456789#meta/example.cm".as_slice(),
         ),
         (
             b"fuchsia-pkg://fuchsia.com/example",
@@ -34,11 +36,13 @@ fn each_part(rt: HostRuntime) -> Result<(), Fail> {
             b"fuchsia-pkg://fuchsia.com/example/0",
         ),
         (
-            b"fuchsia-pkg://fuchsia.com/example?hash=abcdef0123456789abcdef0123456789abcdef0123456789abcdef0123456789",
+            b"fuchsia-pkg://fuchsia.com/example?hash=\
+              abcdef0123456789abcdef0123456789abcdef0123456789abcdef0123456789",
             b"0",
             true,
             None,
-            b"fuchsia-pkg://fuchsia.com/example/0?hash=abcdef0123456789abcdef0123456789abcdef0123456789abcdef0123456789",
+            b"fuchsia-pkg://fuchsia.com/example/0?hash=\
+              abcdef0123456789abcdef0123456789abcdef0123456789abcdef0123456789",
         ),
         (
             b"fuchsia-pkg://fuchsia.com/example/0#a#b?c/d e",
@@ -103,7 +107,9 @@ fn faults(rt: HostRuntime) -> Result<(), Fail> {
             UrlFault::Hash,
         ),
         (
-            b"fuchsia-pkg://h/a?hash=abcdef0123456789abcdef0123456789abcdef0123456789abcdef0123456789?hash=abcdef0123456789abcdef0123456789abcdef0123456789abcdef0123456789",
+            b"fuchsia-pkg://h/a?hash=\
+              abcdef0123456789abcdef0123456789abcdef0123456789abcdef0123456789\
+              ?hash=abcdef0123456789abcdef0123456789abcdef0123456789abcdef0123456789",
             UrlFault::Hash,
         ),
         (

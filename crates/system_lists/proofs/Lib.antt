@@ -1,0 +1,4 @@
+mod Listing
+mod StaticLines
+mod Law
+mod Values
