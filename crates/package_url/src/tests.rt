@@ -21,12 +21,14 @@ fn each_part(rt: HostRuntime) -> Result<(), Fail> {
     for (text, variant, pinned, file, written) in [
         (
             b"fuchsia-pkg://fuchsia.com/example/1?hash=\
-              abcdef0123456789abcdef0123456789abcdef0123456789abcdef0123456789#meta/example.cm".as_slice(),
+              abcdef0123456789abcdef0123456789abcdef0123456789abcdef0123456789#meta/example.cm"
+                .as_slice(),
             b"1".as_slice(),
             true,
             Some(b"meta/example.cm".as_slice()),
             b"fuchsia-pkg://fuchsia.com/example/1?hash=\
-              abcdef0123456789abcdef0123456789abcdef0123456789abcdef0123456789#meta/example.cm".as_slice(),
+              abcdef0123456789abcdef0123456789abcdef0123456789abcdef0123456789#meta/example.cm"
+                .as_slice(),
         ),
         (
             b"fuchsia-pkg://fuchsia.com/example",
