@@ -1,0 +1,2 @@
+pub mod MemoryRepo
+pub mod Repo
