@@ -1,8 +1,9 @@
 //! What several tests share.
 
-ghost use Rattle.std.specs.Prelude.{◌≡◌, length, replicate, vec_len, IfOk};
+ghost use Rattle.std.specs.Prelude.{◌≡◌, ◌≤◌, length, replicate, vec_len, IfOk};
 
 use far_archive::FarEntry;
+use pkg_merkle::{BYTES_LIMIT, Binding, same_or_collision};
 use pkg_names::{Bytes, FileFault, Root, read_file};
 use std::alloc::{AllocError, Global};
 
@@ -41,4 +42,13 @@ pub fn entries_of(alloc: Global, files: &[(&[u8], &[u8])]) -> Result<Vec<FarEntr
         }
     }
     Ok(entries)
+}
+
+/// What a blob and a copy of it show.
+pub fn beside_copy(alloc: Global, blob: &[u8]) -> Result<Binding, AllocError>
+    requires { length blob.now ≤ BYTES_LIMIT }
+    ensures { IfOk result (λ binding. binding ≡ Binding.Same) }
+{
+    let copy = Vec::from_slice(alloc, blob)?;
+    same_or_collision(alloc, blob, &copy)
 }

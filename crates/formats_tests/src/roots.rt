@@ -2,7 +2,8 @@
 
 ghost use Rattle.std.specs.Prelude.{◌≡◌, ◌<◌, IfOk, vec_len};
 
-use pkg_merkle::{BYTES_LIMIT, Binding, Hasher, TooLong, root_of, same_or_collision};
+use crate::common::beside_copy;
+use pkg_merkle::{BYTES_LIMIT, Binding, Hasher, TooLong, root_of};
 use pkg_names::{Root, read_root};
 use std::alloc::{AllocError, Global};
 use std::process::Abort;
@@ -97,12 +98,12 @@ fn limit(rt: HostRuntime) -> Result<(), Fail> {
 
 #[test]
 fn equal_blobs(rt: HostRuntime) -> Result<(), Fail> {
-    assert_eq!(rt; same_or_collision(rt.alloc(), b"hi", b"hi")?, Binding::Same);
+    assert_eq!(rt; beside_copy(rt.alloc(), b"hi")?, Binding::Same);
     for count in [0, 20_000, 2_097_153] {
         let bytes = sample(rt.alloc(), count)?;
-        let copy = Vec::from_slice(rt.alloc(), &bytes)?;
+        assert!(rt; bytes.len() <= BYTES_LIMIT);
         assert_eq!(rt;
-            same_or_collision(rt.alloc(), &bytes, &copy)?,
+            beside_copy(rt.alloc(), &bytes)?,
             Binding::Same,
             "{count} bytes"
         );
