@@ -4,8 +4,8 @@ ghost use Rattle.std.specs.Prelude.{◌≡◌, ◌↔◌, ℕ, [], false, map, I
 ghost use Rattle.std.specs.String.{string_bytes};
 ghost use Rattle.std.specs.Process.{exit_status};
 ghost use Rattle.pkg_names.specs.Streams.{Rose};
-ghost use Rattle.store_model.specs.State.{bare};
-ghost use Rattle.store_model.specs.History.{IsLegal};
+ghost use Rattle.first_model.specs.State.{bare};
+ghost use Rattle.first_model.specs.History.{IsLegal};
 ghost use Rattle.pkg_tool.specs.Script.{IsBadAt};
 ghost use Rattle.pkg_tool.specs.Words.{are_run_words};
 ghost use Rattle.pkg_tool.specs.Written.{Wrote, WroteFront};

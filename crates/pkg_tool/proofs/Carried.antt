@@ -2,12 +2,12 @@
 use Rattle.std.proofs.Common.{◌≡◌, ℕ, ◌+◌, List, [], ◌∷◌, All}
 use Rattle.std.proofs.lemmas.List.Elements.{All-nil, All-cons}
 use Rattle.pkg_merkle.specs.Merkle.{merkle_root}
-use Rattle.store_model.specs.declared.events.Event.{Event}
-use Rattle.store_model.specs.declared.events.LookedAt.{LookedAt}
-use Rattle.store_model.specs.State.{State, Stored, bare, opened}
-use Rattle.store_model.specs.Settling.{IsSeen}
-use Rattle.store_model.specs.Step.{step, seen_by}
-use Rattle.store_model.specs.History.{IsLegalFrom, IsLegal}
+use Rattle.first_model.specs.declared.events.Event.{Event}
+use Rattle.first_model.specs.declared.events.LookedAt.{LookedAt}
+use Rattle.first_model.specs.State.{State, Stored, bare, opened}
+use Rattle.first_model.specs.Settling.{IsSeen}
+use Rattle.first_model.specs.Step.{step, seen_by}
+use Rattle.first_model.specs.History.{IsLegalFrom, IsLegal}
 use Rattle.pkg_tool.specs.Fetching.{Carries}
 
 seen_carried : (seen : List LookedAt) (stock : List Stored) → IsSeen seen stock → All (λ (b : LookedAt). merkle_root b.bytes ≡ b.root) seen

@@ -9,16 +9,16 @@ use Rattle.fetch_queue.specs.declared.FetchEnd.{FetchEnd}
 use Rattle.pkg_names.specs.Root.{root_eq}
 use Rattle.package_indexes.specs.declared.Choice.{Choice}
 use Rattle.package_indexes.specs.declared.Choice.TheVariants as choices
-use Rattle.store_model.specs.declared.events.Event.{Event}
-use Rattle.store_model.specs.declared.events.Act.{Act}
-use Rattle.store_model.specs.declared.events.Act.TheVariants.{Boot, Begin, Want, Room, Land, Missed, GaveUp}
-use Rattle.store_model.specs.declared.events.BeginEnd.{BeginEnd}
-use Rattle.store_model.specs.declared.events.BeginEnd.TheVariants as begins
-use Rattle.store_model.specs.declared.events.WantEnd.{WantEnd}
-use Rattle.store_model.specs.declared.events.WantEnd.TheVariants.{Fetch, Opened, Failed}
-use Rattle.store_model.specs.declared.events.LookedAt.{LookedAt}
-use Rattle.store_model.specs.declared.events.Miss.{Miss}
-use Rattle.store_model.specs.declared.events.Miss.TheVariants as misses
+use Rattle.first_model.specs.declared.events.Event.{Event}
+use Rattle.first_model.specs.declared.events.Act.{Act}
+use Rattle.first_model.specs.declared.events.Act.TheVariants.{Boot, Begin, Want, Room, Land, Missed, GaveUp}
+use Rattle.first_model.specs.declared.events.BeginEnd.{BeginEnd}
+use Rattle.first_model.specs.declared.events.BeginEnd.TheVariants as begins
+use Rattle.first_model.specs.declared.events.WantEnd.{WantEnd}
+use Rattle.first_model.specs.declared.events.WantEnd.TheVariants.{Fetch, Opened, Failed}
+use Rattle.first_model.specs.declared.events.LookedAt.{LookedAt}
+use Rattle.first_model.specs.declared.events.Miss.{Miss}
+use Rattle.first_model.specs.declared.events.Miss.TheVariants as misses
 use Rattle.pkg_names.proofs.Roots.{root_eq-true, path_eq-true}
 use Rattle.pkg_tool.specs.declared.script.Request.{Request}
 use Rattle.pkg_tool.specs.Counting.{Asking, asking, askings, asking_of, answers, grants, grant_ends, counted, asked_at, granted_at, Balances}

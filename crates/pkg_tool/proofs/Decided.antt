@@ -2,14 +2,14 @@
 use Rattle.std.proofs.Common.{◌≡◌, ℕ, Bool, true, false, cond, List, [], ◌∷◌, ◌++◌, Some, None, is_some, refl, ap, ◌∙◌}
 use Rattle.pkg_names.specs.declared.root.Root.{Root}
 use Rattle.pkg_names.specs.Root.{root_eq}
-use Rattle.store_model.specs.declared.events.Event.{Event}
-use Rattle.store_model.specs.declared.events.LookedAt.{LookedAt}
-use Rattle.store_model.specs.State.{State, Stored, stored_len, is_stored, bare}
+use Rattle.first_model.specs.declared.events.Event.{Event}
+use Rattle.first_model.specs.declared.events.LookedAt.{LookedAt}
+use Rattle.first_model.specs.State.{State, Stored, stored_len, is_stored, bare}
 use Rattle.pkg_names.proofs.Roots.{root_eq-refl}
 use Rattle.pkg_tool.specs.declared.store.Held.TheVariants.{Ticket}
-use Rattle.store_model.specs.declared.events.Act.TheVariants.{Land}
-use Rattle.store_model.specs.History.{after}
-use Rattle.store_model.proofs.Histories.{after_more}
+use Rattle.first_model.specs.declared.events.Act.TheVariants.{Land}
+use Rattle.first_model.specs.History.{after}
+use Rattle.first_model.proofs.Histories.{after_more}
 use Rattle.pkg_tool.specs.Holding.{is_decided, by_lane}
 use Rattle.pkg_tool.specs.Mirrors.{IsStore, stored}
 

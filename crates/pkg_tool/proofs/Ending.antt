@@ -1,7 +1,7 @@
 -- What a run leaves, by how it ended.
 use Rattle.std.proofs.Common.{◌≡◌, ◌↔◌, ◌⊎◌, ℕ, ◌<◌, Bool, true, false, List, [], ◌∷◌, length, inl, inr, Option, refl, arith}
 use Rattle.std.specs.Prelude.{IfSome}
-use Rattle.store_model.specs.declared.events.Event.{Event}
+use Rattle.first_model.specs.declared.events.Event.{Event}
 use Rattle.pkg_tool.specs.declared.running.Status.{Status}
 use Rattle.pkg_tool.specs.declared.running.Status.TheVariants.{Done, BadWords, BadScript, ScriptFault, SinkFault, NoMemory}
 use Rattle.pkg_tool.specs.declared.script.Request.{Request}

@@ -8,13 +8,13 @@ use Rattle.abr_record.specs.declared.Slot.TheVariants as slots
 use Rattle.pkg_names.specs.Streams.{RoseBy}
 use Rattle.fetch_queue.specs.declared.FetchEnd.{FetchEnd}
 use Rattle.package_indexes.specs.declared.Choice.TheVariants.{Pinned}
-use Rattle.store_model.specs.declared.events.Event.{Event}
-use Rattle.store_model.specs.declared.events.Act.{Act}
-use Rattle.store_model.specs.declared.events.Act.TheVariants.{Boot, Begin, Want, Room, Land, Missed, GaveUp}
-use Rattle.store_model.specs.declared.events.BeginEnd.TheVariants as begins
-use Rattle.store_model.specs.declared.events.LookedAt.{LookedAt}
-use Rattle.store_model.specs.declared.events.Miss.{Miss}
-use Rattle.store_model.specs.declared.events.WantEnd.{WantEnd}
+use Rattle.first_model.specs.declared.events.Event.{Event}
+use Rattle.first_model.specs.declared.events.Act.{Act}
+use Rattle.first_model.specs.declared.events.Act.TheVariants.{Boot, Begin, Want, Room, Land, Missed, GaveUp}
+use Rattle.first_model.specs.declared.events.BeginEnd.TheVariants as begins
+use Rattle.first_model.specs.declared.events.LookedAt.{LookedAt}
+use Rattle.first_model.specs.declared.events.Miss.{Miss}
+use Rattle.first_model.specs.declared.events.WantEnd.{WantEnd}
 use Rattle.pkg_names.proofs.Roots.{root_eq-refl}
 use Rattle.pkg_tool.specs.declared.script.Request.{Request}
 use Rattle.pkg_tool.specs.declared.store.Held.{Held}

@@ -4,12 +4,12 @@ use Rattle.std.specs.Prelude.{Option, None, false, ◌==◌}
 use Rattle.abr_record.specs.declared.Slot.{Slot}
 use Rattle.abr_record.specs.declared.Slot.TheVariants as slots
 use Rattle.pkg_names.specs.declared.root.Root.{Root}
-use Rattle.store_model.specs.declared.events.Event.{Event}
-use Rattle.store_model.specs.declared.events.LookedAt.{LookedAt}
-use Rattle.store_model.specs.State.{State, Stored, Claim, Arrival, bare}
-use Rattle.store_model.specs.Step.{IsDue, step}
-use Rattle.store_model.specs.History.{after}
-use Rattle.store_model.proofs.Histories.{goes_on}
+use Rattle.first_model.specs.declared.events.Event.{Event}
+use Rattle.first_model.specs.declared.events.LookedAt.{LookedAt}
+use Rattle.first_model.specs.State.{State, Stored, Claim, Arrival, bare}
+use Rattle.first_model.specs.Step.{IsDue, step}
+use Rattle.first_model.specs.History.{after}
+use Rattle.first_model.proofs.Histories.{goes_on}
 use Rattle.pkg_tool.specs.declared.store.Held.{Held}
 use Rattle.pkg_tool.specs.Mirrors.{Mirrors, IsStore, with_parts, spare_for}
 use Rattle.std.proofs.lemmas.List.{length-append}

@@ -5,10 +5,10 @@ use Rattle.std.proofs.lemmas.List.Folds.{list_any-append}
 use Rattle.pkg_names.specs.declared.root.Root.{Root}
 use Rattle.pkg_names.specs.Root.{root_eq}
 use Rattle.package_book.specs.Books.{Books}
-use Rattle.store_model.specs.declared.events.LookedAt.{LookedAt}
-use Rattle.store_model.specs.State.{Stored, is_stored, has_root}
-use Rattle.store_model.specs.Settling.{KnowsAll, with_looked, with_long}
-use Rattle.store_model.proofs.Knowing.{Knows, knows_looked, knows_long}
+use Rattle.first_model.specs.declared.events.LookedAt.{LookedAt}
+use Rattle.first_model.specs.State.{Stored, is_stored, has_root}
+use Rattle.first_model.specs.Settling.{KnowsAll, with_looked, with_long}
+use Rattle.first_model.proofs.Knowing.{Knows, knows_looked, knows_long}
 
 pub has_root-append : (xs ys : List Root) (x : Root) → has_root (xs ++ ys) x ≡ (has_root xs x || has_root ys x)
 has_root-append xs ys x = list_any-append (λ other. root_eq other x) xs ys

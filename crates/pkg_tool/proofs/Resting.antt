@@ -9,19 +9,19 @@ use Rattle.fetch_queue.specs.declared.FetchEnd.{FetchEnd}
 use Rattle.pkg_names.specs.NameAndVariant.{NameAndVariant, path_eq}
 use Rattle.package_indexes.specs.declared.Choice.{Choice}
 use Rattle.package_book.specs.Alone.{names_alone}
-use Rattle.store_model.specs.declared.events.Event.{Event}
-use Rattle.store_model.specs.declared.events.Act.{Act}
-use Rattle.store_model.specs.declared.events.Act.TheVariants.{Boot, Begin, Want, Room, Land, Missed, GaveUp}
-use Rattle.store_model.specs.declared.events.BeginEnd.{BeginEnd}
-use Rattle.store_model.specs.declared.events.BeginEnd.TheVariants as begins
-use Rattle.store_model.specs.declared.events.WantEnd.{WantEnd}
-use Rattle.store_model.specs.declared.events.WantEnd.TheVariants.{Fetch, Opened, Failed}
-use Rattle.store_model.specs.declared.events.LookedAt.{LookedAt}
-use Rattle.store_model.specs.declared.events.Miss.{Miss}
-use Rattle.store_model.specs.declared.events.Miss.TheVariants as misses
-use Rattle.store_model.specs.State.{State, Standing, Claim, Arrival, opened, without_claim, with_room, without_ticket, has_root}
-use Rattle.store_model.specs.Step.{next, step, is_boot}
-use Rattle.store_model.specs.History.{IsLegalFrom, IsLegal, after_from, after}
+use Rattle.first_model.specs.declared.events.Event.{Event}
+use Rattle.first_model.specs.declared.events.Act.{Act}
+use Rattle.first_model.specs.declared.events.Act.TheVariants.{Boot, Begin, Want, Room, Land, Missed, GaveUp}
+use Rattle.first_model.specs.declared.events.BeginEnd.{BeginEnd}
+use Rattle.first_model.specs.declared.events.BeginEnd.TheVariants as begins
+use Rattle.first_model.specs.declared.events.WantEnd.{WantEnd}
+use Rattle.first_model.specs.declared.events.WantEnd.TheVariants.{Fetch, Opened, Failed}
+use Rattle.first_model.specs.declared.events.LookedAt.{LookedAt}
+use Rattle.first_model.specs.declared.events.Miss.{Miss}
+use Rattle.first_model.specs.declared.events.Miss.TheVariants as misses
+use Rattle.first_model.specs.State.{State, Standing, Claim, Arrival, opened, without_claim, with_room, without_ticket, has_root}
+use Rattle.first_model.specs.Step.{next, step, is_boot}
+use Rattle.first_model.specs.History.{IsLegalFrom, IsLegal, after_from, after}
 use Rattle.pkg_tool.specs.declared.script.Request.{Request}
 use Rattle.pkg_tool.specs.Serving.{Point, Progress, is_pin, after_begin, after_want, after_room, after_miss, next_point, progress_by, progress_after, progress_from, progress}
 use Rattle.pkg_tool.specs.Serving.Point.{Rest, Waiting, Granted, Roomy, Giving, Cut}

@@ -8,12 +8,12 @@ use Rattle.pkg_names.specs.declared.root.Root.{Root}
 use Rattle.pkg_merkle.specs.Merkle.{merkle_root}
 use Rattle.pkg_names.specs.Root.{root_eq}
 use Rattle.package_book.specs.Books.{Books}
-use Rattle.store_model.specs.declared.events.LookedAt.{LookedAt}
-use Rattle.store_model.specs.State.{Stored, stored_len, is_stored, has_root}
-use Rattle.store_model.specs.declared.events.TheConstants.{META_LIMIT}
-use Rattle.store_model.specs.Settling.{with_looked, with_long, IsSeen}
+use Rattle.first_model.specs.declared.events.LookedAt.{LookedAt}
+use Rattle.first_model.specs.State.{Stored, stored_len, is_stored, has_root}
+use Rattle.first_model.specs.declared.events.TheConstants.{META_LIMIT}
+use Rattle.first_model.specs.Settling.{with_looked, with_long, IsSeen}
 use Rattle.pkg_names.proofs.Roots.{root_eq-true, root_eq-refl}
-use Rattle.store_model.proofs.Knowing.{Knows, knows_long, knows_pair, knows_stored_long}
+use Rattle.first_model.proofs.Knowing.{Knows, knows_long, knows_pair, knows_stored_long}
 use Rattle.pkg_tool.specs.Fetching.{landed_seen}
 use Rattle.pkg_tool.specs.Mirrors.{stored, blob_at, looked_blobs, short_blob, missing_of}
 

@@ -12,15 +12,15 @@ use Rattle.pkg_names.specs.Root.{root_eq}
 use Rattle.package_book.specs.Alone.{names_alone-itself}
 use Rattle.package_indexes.specs.declared.Choice.TheVariants as choices
 use Rattle.package_indexes.specs.Indexes.{roots_of, root_at, with_root}
-use Rattle.store_model.specs.declared.events.Act.TheVariants as acts
-use Rattle.store_model.specs.declared.events.BeginEnd.TheVariants as begins
-use Rattle.store_model.specs.declared.events.WantEnd.TheVariants as wants
-use Rattle.store_model.specs.declared.events.LookedAt.{LookedAt}
-use Rattle.store_model.specs.State.{State, Stored, Directory, stored_len, is_stored, has_root, protected_in}
-use Rattle.store_model.specs.Settling.{HasLooked, with_looked, with_long}
-use Rattle.store_model.specs.Step.{IsDue, next}
+use Rattle.first_model.specs.declared.events.Act.TheVariants as acts
+use Rattle.first_model.specs.declared.events.BeginEnd.TheVariants as begins
+use Rattle.first_model.specs.declared.events.WantEnd.TheVariants as wants
+use Rattle.first_model.specs.declared.events.LookedAt.{LookedAt}
+use Rattle.first_model.specs.State.{State, Stored, Directory, stored_len, is_stored, has_root, protected_in}
+use Rattle.first_model.specs.Settling.{HasLooked, with_looked, with_long}
+use Rattle.first_model.specs.Step.{IsDue, next}
 use Rattle.pkg_names.proofs.Roots.{root_eq-true, root_eq-same, root_eq-refl}
-use Rattle.store_model.proofs.Knowing.{Knows, known_after}
+use Rattle.first_model.proofs.Knowing.{Knows, known_after}
 use Rattle.pkg_tool.specs.declared.store.Held.TheVariants.{Nothing, Ticket, Claim}
 use Rattle.pkg_tool.specs.Fetching.{landed_seen}
 use Rattle.pkg_tool.specs.Holding.{by_lane}

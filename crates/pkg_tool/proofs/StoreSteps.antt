@@ -8,21 +8,21 @@ use Rattle.pkg_names.specs.declared.root.Root.{Root}
 use Rattle.pkg_names.specs.Root.{root_eq}
 use Rattle.package_book.specs.Books.{Books}
 use Rattle.package_book.specs.Alone.{names_alone, names_alone-itself}
-use Rattle.store_model.specs.declared.events.Act.{Act}
-use Rattle.store_model.specs.declared.events.Act.TheVariants as acts
-use Rattle.store_model.specs.declared.events.LookedAt.{LookedAt}
-use Rattle.store_model.specs.State.{State, Arrival, Claim as Claimed, Directory, is_stored, has_root, protected_in}
-use Rattle.store_model.specs.Settling.{KnowsAll, HasLooked}
-use Rattle.store_model.specs.Step.{IsDue, IsActDue, next, seen_by, is_boot, is_end}
-use Rattle.store_model.specs.Acts.Missed.{arriving_after_miss}
-use Rattle.store_model.specs.declared.events.Miss.{Miss}
-use Rattle.store_model.specs.declared.events.Miss.TheVariants as misses
-use Rattle.store_model.specs.declared.events.WantEnd.TheVariants as wants
-use Rattle.store_model.specs.declared.events.Cause.TheVariants as causes
+use Rattle.first_model.specs.declared.events.Act.{Act}
+use Rattle.first_model.specs.declared.events.Act.TheVariants as acts
+use Rattle.first_model.specs.declared.events.LookedAt.{LookedAt}
+use Rattle.first_model.specs.State.{State, Arrival, Claim as Claimed, Directory, is_stored, has_root, protected_in}
+use Rattle.first_model.specs.Settling.{KnowsAll, HasLooked}
+use Rattle.first_model.specs.Step.{IsDue, IsActDue, next, seen_by, is_boot, is_end}
+use Rattle.first_model.specs.Acts.Missed.{arriving_after_miss}
+use Rattle.first_model.specs.declared.events.Miss.{Miss}
+use Rattle.first_model.specs.declared.events.Miss.TheVariants as misses
+use Rattle.first_model.specs.declared.events.WantEnd.TheVariants as wants
+use Rattle.first_model.specs.declared.events.Cause.TheVariants as causes
 use Rattle.fetch_queue.specs.declared.FetchEnd.TheVariants as ends
 use Rattle.package_indexes.specs.Indexes.{roots_of}
 use Rattle.pkg_names.proofs.Roots.{root_eq-refl}
-use Rattle.store_model.proofs.Knowing.{known_after}
+use Rattle.first_model.proofs.Knowing.{known_after}
 use Rattle.pkg_tool.specs.declared.store.Held.{Held}
 use Rattle.pkg_tool.specs.declared.store.Held.TheVariants.{Nothing, Ticket, Claim}
 use Rattle.pkg_tool.specs.Holding.{by_lane, mark_of}

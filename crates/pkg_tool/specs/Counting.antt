@@ -5,11 +5,11 @@ use Rattle.pkg_names.specs.declared.root.Root.{Root}
 use Rattle.package_indexes.specs.declared.Choice.{Choice}
 use Rattle.package_indexes.specs.declared.Choice.TheVariants.{Pinned}
 use Rattle.pkg_names.specs.Root.{root_eq}
-use Rattle.store_model.specs.declared.events.Event.{Event}
-use Rattle.store_model.specs.declared.events.Act.{Act}
-use Rattle.store_model.specs.declared.events.Act.TheVariants.{Begin, Want, Room, Land, Missed}
-use Rattle.store_model.specs.declared.events.BeginEnd.TheVariants.{Ticket}
-use Rattle.store_model.specs.declared.events.WantEnd.TheVariants.{Fetch}
+use Rattle.first_model.specs.declared.events.Event.{Event}
+use Rattle.first_model.specs.declared.events.Act.{Act}
+use Rattle.first_model.specs.declared.events.Act.TheVariants.{Begin, Want, Room, Land, Missed}
+use Rattle.first_model.specs.declared.events.BeginEnd.TheVariants.{Ticket}
+use Rattle.first_model.specs.declared.events.WantEnd.TheVariants.{Fetch}
 use Rattle.pkg_tool.specs.declared.script.Request.{Request}
 use Rattle.pkg_tool.specs.Serving.{Point}
 use Rattle.pkg_tool.specs.Serving.Point.{Rest, Granted, Roomy}

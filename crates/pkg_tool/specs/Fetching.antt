@@ -2,17 +2,17 @@
 use Rattle.std.specs.Prelude.{◌≡◌, ◌≢◌, ℕ, ◌+◌, nat_lt, List, [], ◌∷◌, length, Option, Some, None, All, IfSome, if◌then◌else◌}
 use Rattle.std.specs.Option.{option_map}
 use Rattle.pkg_names.specs.Streams.{RoseBy}
-use Rattle.store_model.specs.declared.events.Event.{Event}
-use Rattle.store_model.specs.declared.events.Act.{Act}
-use Rattle.store_model.specs.declared.events.Act.TheVariants.{Room, Land, Missed}
-use Rattle.store_model.specs.declared.events.LookedAt.{LookedAt}
+use Rattle.first_model.specs.declared.events.Event.{Event}
+use Rattle.first_model.specs.declared.events.Act.{Act}
+use Rattle.first_model.specs.declared.events.Act.TheVariants.{Room, Land, Missed}
+use Rattle.first_model.specs.declared.events.LookedAt.{LookedAt}
 use Rattle.pkg_merkle.specs.Merkle.{merkle_root}
-use Rattle.store_model.specs.declared.events.Miss.TheVariants as misses
-use Rattle.store_model.specs.Step.{seen_by}
+use Rattle.first_model.specs.declared.events.Miss.TheVariants as misses
+use Rattle.first_model.specs.Step.{seen_by}
 use Rattle.pkg_names.specs.declared.root.Root.{Root}
 use Rattle.pkg_tool.specs.declared.repo.File.{File}
 use Rattle.pkg_tool.specs.Files.{file_at}
-use Rattle.store_model.specs.declared.events.TheConstants.{META_LIMIT}
+use Rattle.first_model.specs.declared.events.TheConstants.{META_LIMIT}
 use Rattle.fetch_queue.specs.declared.FetchEnd.{FetchEnd}
 use Rattle.fetch_queue.specs.declared.FetchEnd.TheVariants as ends
 

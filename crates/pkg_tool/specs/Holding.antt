@@ -3,14 +3,14 @@ use Rattle.std.specs.Prelude.{Bool, ◌||◌, is_some, ◌≡◌, ℕ, false, Li
 use Rattle.fetch_queue.specs.declared.FetchEnd.{FetchEnd}
 use Rattle.fetch_queue.specs.declared.FetchEnd.TheVariants as ends
 use Rattle.pkg_names.specs.declared.root.Root.{Root}
-use Rattle.store_model.specs.declared.events.Event.{Event}
-use Rattle.store_model.specs.declared.events.Act.{Act}
-use Rattle.store_model.specs.declared.events.Miss.{Miss}
-use Rattle.store_model.specs.declared.events.Miss.TheVariants as misses
-use Rattle.store_model.specs.declared.events.WantEnd.{WantEnd}
-use Rattle.store_model.specs.declared.events.WantEnd.TheVariants.{Fetch}
-use Rattle.store_model.specs.State.{is_stored, bare}
-use Rattle.store_model.specs.History.{after}
+use Rattle.first_model.specs.declared.events.Event.{Event}
+use Rattle.first_model.specs.declared.events.Act.{Act}
+use Rattle.first_model.specs.declared.events.Miss.{Miss}
+use Rattle.first_model.specs.declared.events.Miss.TheVariants as misses
+use Rattle.first_model.specs.declared.events.WantEnd.{WantEnd}
+use Rattle.first_model.specs.declared.events.WantEnd.TheVariants.{Fetch}
+use Rattle.first_model.specs.State.{is_stored, bare}
+use Rattle.first_model.specs.History.{after}
 use Rattle.pkg_tool.specs.Serving.{Point}
 use Rattle.pkg_tool.specs.Serving.Point.{Rest, Waiting, Granted, Roomy}
 use Rattle.pkg_tool.specs.declared.store.Held.{Held}

@@ -5,11 +5,11 @@ use Rattle.pkg_names.specs.NameAndVariant.{NameAndVariant}
 use Rattle.pkg_names.specs.declared.root.Root.{Root}
 use Rattle.pkg_merkle.specs.Merkle.{merkle_root}
 use Rattle.pkg_names.specs.Root.{root_eq}
-use Rattle.store_model.specs.declared.events.Event.{Event}
-use Rattle.store_model.specs.declared.events.LookedAt.{LookedAt}
-use Rattle.store_model.specs.State.{State, Stored, Claim as Claimed, Arrival, Directory, is_stored, has_root, protected_in, bare}
-use Rattle.store_model.specs.Settling.{KnowsAll}
-use Rattle.store_model.specs.History.{IsLegal, after}
+use Rattle.first_model.specs.declared.events.Event.{Event}
+use Rattle.first_model.specs.declared.events.LookedAt.{LookedAt}
+use Rattle.first_model.specs.State.{State, Stored, Claim as Claimed, Arrival, Directory, is_stored, has_root, protected_in, bare}
+use Rattle.first_model.specs.Settling.{KnowsAll}
+use Rattle.first_model.specs.History.{IsLegal, after}
 use Rattle.pkg_tool.specs.Fetching.{landed_seen}
 use Rattle.pkg_tool.specs.declared.store.Held.{Held}
 use Rattle.pkg_tool.specs.declared.store.Held.TheVariants.{Nothing, Ticket, Claim}

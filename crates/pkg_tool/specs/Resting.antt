@@ -1,7 +1,7 @@
 -- What the lane holds in the state, at each point of its run.
 use Rattle.std.specs.Prelude.{◌≡◌, ℕ, ◌==◌, List, [], ◌∷◌, map, filter}
 use Rattle.pkg_names.specs.declared.root.Root.{Root}
-use Rattle.store_model.specs.State.{State, Claim, Arrival}
+use Rattle.first_model.specs.State.{State, Claim, Arrival}
 use Rattle.pkg_tool.specs.Serving.{Point}
 use Rattle.pkg_tool.specs.Serving.Point.{Rest, Waiting, Granted, Roomy, Giving, Cut}
 

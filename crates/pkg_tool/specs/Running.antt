@@ -1,6 +1,6 @@
 -- How a run ends, and what its history is to the script.
 use Rattle.std.specs.Prelude.{◌≡◌, ℕ, ◌<◌, Bool, true, false, List, [], length, ◌⊎◌, Option, IfSome}
-use Rattle.store_model.specs.declared.events.Event.{Event}
+use Rattle.first_model.specs.declared.events.Event.{Event}
 use Rattle.pkg_tool.specs.declared.running.Status.{Status}
 use Rattle.pkg_tool.specs.declared.running.Status.TheVariants.{Done, BadWords, BadScript, ScriptFault, SinkFault, NoMemory}
 use Rattle.pkg_tool.specs.declared.script.Request.{Request}

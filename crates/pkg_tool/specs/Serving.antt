@@ -7,15 +7,15 @@ use Rattle.package_indexes.specs.declared.Choice.{Choice}
 use Rattle.package_indexes.specs.declared.Choice.TheVariants as choices
 use Rattle.pkg_names.specs.NameAndVariant.{path_eq}
 use Rattle.pkg_names.specs.declared.root.Root.{Root}
-use Rattle.store_model.specs.declared.events.Event.{Event}
-use Rattle.store_model.specs.declared.events.Act.{Act}
-use Rattle.store_model.specs.declared.events.Act.TheVariants.{Begin, Want, Room, Land, Missed, GaveUp}
-use Rattle.store_model.specs.declared.events.BeginEnd.{BeginEnd}
-use Rattle.store_model.specs.declared.events.BeginEnd.TheVariants.{Ticket}
-use Rattle.store_model.specs.declared.events.WantEnd.{WantEnd}
-use Rattle.store_model.specs.declared.events.WantEnd.TheVariants.{Fetch}
-use Rattle.store_model.specs.declared.events.Miss.{Miss}
-use Rattle.store_model.specs.declared.events.Miss.TheVariants as misses
+use Rattle.first_model.specs.declared.events.Event.{Event}
+use Rattle.first_model.specs.declared.events.Act.{Act}
+use Rattle.first_model.specs.declared.events.Act.TheVariants.{Begin, Want, Room, Land, Missed, GaveUp}
+use Rattle.first_model.specs.declared.events.BeginEnd.{BeginEnd}
+use Rattle.first_model.specs.declared.events.BeginEnd.TheVariants.{Ticket}
+use Rattle.first_model.specs.declared.events.WantEnd.{WantEnd}
+use Rattle.first_model.specs.declared.events.WantEnd.TheVariants.{Fetch}
+use Rattle.first_model.specs.declared.events.Miss.{Miss}
+use Rattle.first_model.specs.declared.events.Miss.TheVariants as misses
 use Rattle.pkg_tool.specs.declared.script.Request.{Request}
 
 -- what the lane holds within a run

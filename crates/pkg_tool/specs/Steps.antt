@@ -1,7 +1,7 @@
 -- What the steps of a run come to. These definitions serve its proof; no clause of `run` cites them.
 use Rattle.std.specs.Prelude.{◌≡◌, ℕ, Bool, true, List, ◌∷◌, Option, Some, All, IfSome}
 use Rattle.pkg_names.specs.Streams.{RoseBy}
-use Rattle.store_model.specs.declared.events.Event.{Event}
+use Rattle.first_model.specs.declared.events.Event.{Event}
 use Rattle.pkg_tool.specs.declared.repo.File.{File}
 use Rattle.pkg_tool.specs.declared.running.Status.{Status}
 use Rattle.pkg_tool.specs.declared.running.Status.TheVariants.{Done, BadScript, ScriptFault, SinkFault, NoMemory}

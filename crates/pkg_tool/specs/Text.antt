@@ -8,16 +8,16 @@ use Rattle.fetch_queue.specs.declared.FetchEnd.TheVariants as ends
 use Rattle.pkg_names.specs.NameAndVariant.{path_text}
 use Rattle.pkg_names.specs.Root.{root_text}
 use Rattle.pkg_names.specs.Text.{line_feed}
-use Rattle.store_model.specs.declared.events.Event.{Event}
-use Rattle.store_model.specs.declared.events.Act.{Act}
-use Rattle.store_model.specs.declared.events.Act.TheVariants.{Boot, Begin, Want, Room, Land, Missed, GaveUp}
-use Rattle.store_model.specs.declared.events.BeginEnd.{BeginEnd}
-use Rattle.store_model.specs.declared.events.BeginEnd.TheVariants as begins
-use Rattle.store_model.specs.declared.events.WantEnd.{WantEnd}
-use Rattle.store_model.specs.declared.events.WantEnd.TheVariants as wants
-use Rattle.store_model.specs.declared.events.Cause.TheVariants as causes
-use Rattle.store_model.specs.declared.events.Miss.{Miss}
-use Rattle.store_model.specs.declared.events.Miss.TheVariants as misses
+use Rattle.first_model.specs.declared.events.Event.{Event}
+use Rattle.first_model.specs.declared.events.Act.{Act}
+use Rattle.first_model.specs.declared.events.Act.TheVariants.{Boot, Begin, Want, Room, Land, Missed, GaveUp}
+use Rattle.first_model.specs.declared.events.BeginEnd.{BeginEnd}
+use Rattle.first_model.specs.declared.events.BeginEnd.TheVariants as begins
+use Rattle.first_model.specs.declared.events.WantEnd.{WantEnd}
+use Rattle.first_model.specs.declared.events.WantEnd.TheVariants as wants
+use Rattle.first_model.specs.declared.events.Cause.TheVariants as causes
+use Rattle.first_model.specs.declared.events.Miss.{Miss}
+use Rattle.first_model.specs.declared.events.Miss.TheVariants as misses
 
 abbrev pub slot_text : Slot → List ℕ
 slot_text slots.A = codes "A"

@@ -2,7 +2,7 @@ ghost use Rattle.std.specs.Prelude.{◌≡◌, ◌+◌, ◌<◌, ◌≤◌, [], 
 
 use std::alloc::{AllocError, Global};
 use std::marker::Model;
-use store_model::Event;
+use first_model::Event;
 
 /// The events so far, with room for more. Contracts see the events, and how many still fit.
 #[derive(Debug, Drop)]

@@ -1,9 +1,9 @@
 //! The laws of the script language, each the contract of a function that does nothing.
 
 ghost use Rattle.std.specs.Prelude.{◌≡◌, ℕ, Bool, List, Some};
-ghost use Rattle.store_model.specs.declared.events.Event.{Event as EventOf};
-ghost use Rattle.store_model.specs.State.{Standing};
-ghost use Rattle.store_model.specs.History.{IsLegal, after};
+ghost use Rattle.first_model.specs.declared.events.Event.{Event as EventOf};
+ghost use Rattle.first_model.specs.State.{Standing};
+ghost use Rattle.first_model.specs.History.{IsLegal, after};
 ghost use Rattle.pkg_tool.specs.Counting.{Balances};
 ghost use Rattle.pkg_tool.specs.Resting.{Holds, HoldsNothing};
 ghost use Rattle.pkg_tool.specs.Running.{ServesTo};

@@ -10,7 +10,7 @@ use abr_record::Slot;
 use fetch_queue::FetchEnd;
 use pkg_names::{PackagePath, Root, write_root};
 use std::alloc::{AllocError, Global};
-use store_model::{Act, BeginEnd, Cause, Event, Miss, WantEnd};
+use first_model::{Act, BeginEnd, Cause, Event, Miss, WantEnd};
 
 /// The lines of a history, in order.
 pub(crate) fn text_of(alloc: Global, history: &[Event]) -> Result<Vec<u8>, AllocError>

@@ -3,8 +3,8 @@
 ghost use Rattle.std.specs.Prelude.{◌≡◌, ◌↔◌, ◌<◌, ◌≤◌, ℕ, [], true, false, length, map, IfSome, IsSomeAnd, IfOk, IfErr};
 ghost use Rattle.std.specs.String.{string_bytes};
 ghost use Rattle.pkg_names.specs.Streams.{Rose};
-ghost use Rattle.store_model.specs.State.{bare};
-ghost use Rattle.store_model.specs.History.{IsLegal, after};
+ghost use Rattle.first_model.specs.State.{bare};
+ghost use Rattle.first_model.specs.History.{IsLegal, after};
 ghost use Rattle.pkg_tool.specs.Words.{are_run_words};
 ghost use Rattle.pkg_tool.specs.Script.{IsBadAt, IsScript};
 ghost use Rattle.pkg_tool.specs.Written.{Wrote, WroteFront};
@@ -24,7 +24,7 @@ use crate::store::Store;
 use crate::words::are_run;
 use pkg_names::streams::{Sink, Source};
 use std::alloc::Global;
-use store_model::Event;
+use first_model::Event;
 
 /// How a run ended.
 #[derive(Clone, Copy, Debug, PartialEq, Eq)]

@@ -14,7 +14,7 @@ use crate::script::Request;
 use crate::store::Store;
 use pkg_names::{Bytes, Root};
 use std::alloc::{AllocError, Global};
-use store_model::{Miss, WantEnd};
+use first_model::{Miss, WantEnd};
 
 /// Serves one request, to its end or until memory is short.
 pub(crate) fn serve<R: FirstRepo>(

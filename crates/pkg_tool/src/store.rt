@@ -3,11 +3,11 @@
 ghost use Rattle.std.specs.Prelude.{◌≡◌, ◌+◌, ◌<◌, ◌≤◌, ◌∷◌, ◌++◌, [], List, length, true, false, not, find, is_some, Some, None, option_copied, IfOk, OnOk, OnErr};
 ghost use Rattle.abr_record.specs.declared.Slot.TheVariants as slots;
 ghost use Rattle.package_indexes.specs.declared.Choice.TheVariants.{Pinned};
-ghost use Rattle.store_model.specs.declared.events.LookedAt.{LookedAt as LookedAtOf};
-ghost use Rattle.store_model.specs.declared.events.Act.TheVariants as acts;
-ghost use Rattle.store_model.specs.declared.events.BeginEnd.TheVariants as begins;
-ghost use Rattle.store_model.specs.State.{bare};
-ghost use Rattle.store_model.specs.History.{IsLegal};
+ghost use Rattle.first_model.specs.declared.events.LookedAt.{LookedAt as LookedAtOf};
+ghost use Rattle.first_model.specs.declared.events.Act.TheVariants as acts;
+ghost use Rattle.first_model.specs.declared.events.BeginEnd.TheVariants as begins;
+ghost use Rattle.first_model.specs.State.{bare};
+ghost use Rattle.first_model.specs.History.{IsLegal};
 ghost use Rattle.pkg_tool.specs.Fetching.{Lands, landed_seen};
 ghost use Rattle.pkg_tool.specs.Holding.{Makes, held_after_want, mark_of as marked_by, ticket_of, root_of as root_of_held, len_of, IsTicket, IsClaim, IsRoomless, IfFetch, is_decided};
 ghost use Rattle.pkg_tool.specs.Mirrors.{blob_at, looked_blobs, missing_of};
@@ -21,7 +21,7 @@ use pkg_merkle::{BYTES_LIMIT, root_of};
 use pkg_names::{Bytes, PackagePath, Root};
 use std::alloc::{AllocError, Global};
 use std::marker::Model;
-use store_model::{Act, BeginEnd, Cause, Event, Looked, LookedAt, META_LIMIT, Miss, WantEnd};
+use first_model::{Act, BeginEnd, Cause, Event, Looked, LookedAt, META_LIMIT, Miss, WantEnd};
 
 /// The lane that asks; the boot is lane 0's.
 const LANE: u32 = 1;

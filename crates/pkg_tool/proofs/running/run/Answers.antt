@@ -1,4 +1,4 @@
-use Rattle.store_model.specs.State.{bare}
+use Rattle.first_model.specs.State.{bare}
 use Rattle.pkg_tool.proofs.Carried.{carried}
 use Rattle.pkg_tool.proofs.Resting.{holds_nothing}
 use Rattle.pkg_tool.proofs.running.run.Goals as goal

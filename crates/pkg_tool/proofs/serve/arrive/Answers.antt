@@ -1,8 +1,8 @@
 use Rattle.std.proofs.Common.{◌≡◌, ℕ, ◌+◌, length, sym, subst, refl, ◌∙◌}
 use Rattle.pkg_names.specs.declared.root.Root.{Root}
-use Rattle.store_model.specs.declared.events.Act.TheVariants.{Want, GaveUp}
-use Rattle.store_model.specs.declared.events.WantEnd.{WantEnd}
-use Rattle.store_model.specs.declared.events.WantEnd.TheVariants.{Fetch, Opened, Failed}
+use Rattle.first_model.specs.declared.events.Act.TheVariants.{Want, GaveUp}
+use Rattle.first_model.specs.declared.events.WantEnd.{WantEnd}
+use Rattle.first_model.specs.declared.events.WantEnd.TheVariants.{Fetch, Opened, Failed}
 use Rattle.pkg_tool.specs.declared.script.Request.{Request}
 use Rattle.pkg_tool.specs.declared.store.Held.{Held}
 use Rattle.pkg_tool.specs.declared.store.Held.TheVariants.{Nothing}

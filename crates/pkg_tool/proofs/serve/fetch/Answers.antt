@@ -1,8 +1,8 @@
 use Rattle.std.proofs.Common.{◌≡◌, Some, None, subst, refl}
 use Rattle.std.specs.Prelude.{IfSome}
 use Rattle.pkg_names.specs.declared.root.Root.{Root}
-use Rattle.store_model.specs.declared.events.Act.TheVariants.{Missed}
-use Rattle.store_model.specs.declared.events.Miss.TheVariants as misses
+use Rattle.first_model.specs.declared.events.Act.TheVariants.{Missed}
+use Rattle.first_model.specs.declared.events.Miss.TheVariants as misses
 use Rattle.pkg_tool.specs.Files.{file_at}
 use Rattle.pkg_tool.specs.Holding.{root_of}
 use Rattle.pkg_tool.proofs.Going.{fetches, free, rose_none, roomless_claim, miss_serves}

@@ -1,6 +1,6 @@
 use Rattle.std.proofs.Common.{ℕ, ◌+◌, length, ap, ◌∙◌, arith}
-use Rattle.store_model.specs.declared.events.Act.TheVariants.{Missed, GaveUp}
-use Rattle.store_model.specs.declared.events.Miss.TheVariants.{Memory}
+use Rattle.first_model.specs.declared.events.Act.TheVariants.{Missed, GaveUp}
+use Rattle.first_model.specs.declared.events.Miss.TheVariants.{Memory}
 use Rattle.pkg_tool.specs.Holding.{ticket_of, root_of, point_of}
 use Rattle.pkg_tool.specs.Serving.{next_point}
 use Rattle.pkg_tool.specs.Serving.Point.{Giving, Cut}

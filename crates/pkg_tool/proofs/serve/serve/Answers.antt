@@ -1,10 +1,10 @@
 use Rattle.std.proofs.Common.{◌+◌, List, ◌∷◌, length, Result, Ok, Err, None, inl, inr, sym, subst, refl}
 use Rattle.std.specs.Prelude.{OnOk, OnErr}
 use Rattle.package_indexes.specs.declared.Choice.TheVariants.{Pinned}
-use Rattle.store_model.specs.declared.events.Event.{Event}
-use Rattle.store_model.specs.declared.events.LookedAt.{LookedAt}
-use Rattle.store_model.specs.declared.events.Act.TheVariants.{Begin}
-use Rattle.store_model.specs.declared.events.BeginEnd.TheVariants as begins
+use Rattle.first_model.specs.declared.events.Event.{Event}
+use Rattle.first_model.specs.declared.events.LookedAt.{LookedAt}
+use Rattle.first_model.specs.declared.events.Act.TheVariants.{Begin}
+use Rattle.first_model.specs.declared.events.BeginEnd.TheVariants as begins
 use Rattle.pkg_tool.specs.declared.script.Request.{Request}
 use Rattle.pkg_tool.specs.declared.store.Held.{Held}
 use Rattle.pkg_tool.specs.declared.store.Held.TheVariants.{Ticket}

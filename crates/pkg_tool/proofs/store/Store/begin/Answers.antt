@@ -1,12 +1,12 @@
 use Rattle.std.proofs.Common.{◌+◌, List, [], ◌∷◌, ◌++◌, length, arith, ap, ◌∙◌}
 use Rattle.pkg_names.specs.declared.root.Root.{Root}
-use Rattle.store_model.specs.declared.events.Event.{Event}
-use Rattle.store_model.specs.declared.events.LookedAt.{LookedAt}
+use Rattle.first_model.specs.declared.events.Event.{Event}
+use Rattle.first_model.specs.declared.events.LookedAt.{LookedAt}
 use Rattle.pkg_tool.specs.declared.store.Held.TheVariants.{Nothing}
 use Rattle.pkg_tool.specs.Holding.{Session, by_lane}
 use Rattle.package_indexes.specs.declared.Choice.TheVariants.{Pinned}
-use Rattle.store_model.specs.declared.events.Act.TheVariants.{Begin}
-use Rattle.store_model.specs.declared.events.BeginEnd.TheVariants as begins
+use Rattle.first_model.specs.declared.events.Act.TheVariants.{Begin}
+use Rattle.first_model.specs.declared.events.BeginEnd.TheVariants as begins
 use Rattle.pkg_tool.specs.Mirrors.{looked_blobs}
 use Rattle.pkg_tool.proofs.Parts.{noted}
 use Rattle.pkg_tool.proofs.StoreGrowth.{asks}

@@ -1,5 +1,5 @@
 use Rattle.std.proofs.Common.{[], ◌∷◌, ◌++◌, arith, ap, ◌∙◌}
-use Rattle.store_model.specs.declared.events.Event.{Event}
+use Rattle.first_model.specs.declared.events.Event.{Event}
 use Rattle.pkg_tool.proofs.Parts.{noted}
 use Rattle.pkg_tool.proofs.StoreSteps.{gives_up}
 use Rattle.pkg_tool.proofs.store.Store.give_up.Goals as goal

@@ -1,13 +1,13 @@
 use Rattle.std.proofs.Common.{◌≡◌, ℕ, List, [], ◌∷◌, ◌++◌, length, Option, Some, None, arith, ap, sym, subst, ◌∙◌}
 use Rattle.std.proofs.lemmas.Bool.{not-true, not-false}
-use Rattle.store_model.specs.declared.events.Event.{Event}
-use Rattle.store_model.specs.declared.events.LookedAt.{LookedAt}
+use Rattle.first_model.specs.declared.events.Event.{Event}
+use Rattle.first_model.specs.declared.events.LookedAt.{LookedAt}
 use Rattle.pkg_tool.specs.declared.store.Held.{Held}
 use Rattle.pkg_tool.specs.declared.store.Held.TheVariants.{Claim}
 use Rattle.pkg_tool.specs.Fetching.{landed_seen}
 use Rattle.pkg_tool.specs.Holding.{Session, len_of, by_lane}
 use Rattle.fetch_queue.specs.declared.FetchEnd.TheVariants.{Wrong}
-use Rattle.store_model.specs.declared.events.Act.TheVariants.{Land}
+use Rattle.first_model.specs.declared.events.Act.TheVariants.{Land}
 use Rattle.pkg_names.specs.Root.{root_eq}
 use Rattle.pkg_merkle.specs.Merkle.{merkle_root}
 use Rattle.pkg_names.proofs.Roots.{root_eq-true}

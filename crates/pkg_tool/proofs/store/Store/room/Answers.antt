@@ -1,5 +1,5 @@
 use Rattle.std.proofs.Common.{ℕ, List, [], ◌∷◌, ◌++◌, Option, arith, ap, sym, subst, ◌∙◌}
-use Rattle.store_model.specs.declared.events.Event.{Event}
+use Rattle.first_model.specs.declared.events.Event.{Event}
 use Rattle.pkg_tool.specs.declared.store.Held.TheVariants.{Claim}
 use Rattle.pkg_tool.specs.Holding.{Session, IsRoomless}
 use Rattle.pkg_tool.proofs.Parts.{noted}

@@ -1,12 +1,12 @@
 use Rattle.std.proofs.Common.{◌≡◌, ◌≢◌, List, [], ◌∷◌, ◌++◌, Option, Some, None, arith, ap, sym, subst, refl, ◌∙◌}
 use Rattle.pkg_names.specs.declared.root.Root.{Root}
 use Rattle.fetch_queue.specs.declared.FetchEnd.{FetchEnd}
-use Rattle.store_model.specs.declared.events.Event.{Event}
-use Rattle.store_model.specs.declared.events.LookedAt.{LookedAt}
+use Rattle.first_model.specs.declared.events.Event.{Event}
+use Rattle.first_model.specs.declared.events.LookedAt.{LookedAt}
 use Rattle.pkg_tool.specs.declared.store.Held.{Held}
 use Rattle.pkg_tool.specs.declared.store.Held.TheVariants.{Ticket}
-use Rattle.store_model.specs.declared.events.Act.TheVariants.{Want}
-use Rattle.store_model.specs.declared.events.WantEnd.TheVariants.{Fetch}
+use Rattle.first_model.specs.declared.events.Act.TheVariants.{Want}
+use Rattle.first_model.specs.declared.events.WantEnd.TheVariants.{Fetch}
 use Rattle.pkg_tool.specs.Holding.{Session, by_lane, root_of, is_decided}
 use Rattle.pkg_tool.specs.Mirrors.{IsStore, missing_of}
 use Rattle.pkg_tool.proofs.Parts.{noted}

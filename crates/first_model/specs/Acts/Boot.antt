@@ -2,7 +2,7 @@
 use Rattle.std.specs.Prelude.{◌≡◌, ℕ}
 use Rattle.abr_record.specs.declared.Slot.{Slot}
 use Rattle.abr_record.specs.Boot.{boot_slot, boot_record}
-use Rattle.store_model.specs.State.{State}
+use Rattle.first_model.specs.State.{State}
 
 pub record IsDueBoot (s : State) (by : ℕ) (slot : Slot) : Type 0 where
   pub lane : by ≡ 0

@@ -5,9 +5,9 @@ use Rattle.pkg_names.specs.declared.root.Root.{Root}
 use Rattle.pkg_merkle.specs.Merkle.{merkle_root}
 use Rattle.package_book.specs.Books.{Books, book_at}
 use Rattle.package_book.specs.Books.Meta.{Read, Long}
-use Rattle.store_model.specs.declared.events.TheConstants.{META_LIMIT}
-use Rattle.store_model.specs.declared.events.LookedAt.{LookedAt}
-use Rattle.store_model.specs.State.{Stored, State, stored_len, is_stored, has_root, protected_in}
+use Rattle.first_model.specs.declared.events.TheConstants.{META_LIMIT}
+use Rattle.first_model.specs.declared.events.LookedAt.{LookedAt}
+use Rattle.first_model.specs.State.{Stored, State, stored_len, is_stored, has_root, protected_in}
 
 -- the books, with the blobs that were looked at and aren't known
 abbrev pub with_looked : Books → List LookedAt → Books

@@ -1,18 +1,18 @@
 -- Which event is due in a state, and the state after it.
 use Rattle.std.specs.Prelude.{◌≡◌, ℕ, ◌==◌, ◌||◌, not, Bool, true, false, List, [], is_some}
-use Rattle.store_model.specs.declared.events.Event.{Event}
-use Rattle.store_model.specs.declared.events.Act.{Act}
-use Rattle.store_model.specs.declared.events.Act.TheVariants.{Boot, Begin, Want, Room, Land, Missed, GaveUp}
-use Rattle.store_model.specs.declared.events.LookedAt.{LookedAt}
-use Rattle.store_model.specs.State.{State}
-use Rattle.store_model.specs.Settling.{settle, HasLooked, IsSeen}
-use Rattle.store_model.specs.Acts.Boot.{IsDueBoot, next_boot}
-use Rattle.store_model.specs.Acts.Begin.{IsDueBegin, next_begin}
-use Rattle.store_model.specs.Acts.Want.{IsDueWant, next_want}
-use Rattle.store_model.specs.Acts.Room.{IsDueRoom, next_room}
-use Rattle.store_model.specs.Acts.Land.{IsDueLand, next_land}
-use Rattle.store_model.specs.Acts.Missed.{IsDueMissed, next_missed}
-use Rattle.store_model.specs.Acts.GaveUp.{IsDueGaveUp, next_gave_up}
+use Rattle.first_model.specs.declared.events.Event.{Event}
+use Rattle.first_model.specs.declared.events.Act.{Act}
+use Rattle.first_model.specs.declared.events.Act.TheVariants.{Boot, Begin, Want, Room, Land, Missed, GaveUp}
+use Rattle.first_model.specs.declared.events.LookedAt.{LookedAt}
+use Rattle.first_model.specs.State.{State}
+use Rattle.first_model.specs.Settling.{settle, HasLooked, IsSeen}
+use Rattle.first_model.specs.Acts.Boot.{IsDueBoot, next_boot}
+use Rattle.first_model.specs.Acts.Begin.{IsDueBegin, next_begin}
+use Rattle.first_model.specs.Acts.Want.{IsDueWant, next_want}
+use Rattle.first_model.specs.Acts.Room.{IsDueRoom, next_room}
+use Rattle.first_model.specs.Acts.Land.{IsDueLand, next_land}
+use Rattle.first_model.specs.Acts.Missed.{IsDueMissed, next_missed}
+use Rattle.first_model.specs.Acts.GaveUp.{IsDueGaveUp, next_gave_up}
 
 -- the blobs that an act first looked at
 abbrev pub seen_by : Act → List LookedAt

@@ -2,9 +2,9 @@
 use Rattle.std.specs.Prelude.{◌≡◌, ℕ, IsSomeAnd, List}
 use Rattle.pkg_names.specs.declared.root.Root.{Root}
 use Rattle.fetch_queue.specs.declared.FetchEnd.TheVariants as ends
-use Rattle.store_model.specs.declared.events.Miss.{Miss}
-use Rattle.store_model.specs.declared.events.Miss.TheVariants as misses
-use Rattle.store_model.specs.State.{State, Claim, Arrival, claim_of, without_claim, marked_arrivals}
+use Rattle.first_model.specs.declared.events.Miss.{Miss}
+use Rattle.first_model.specs.declared.events.Miss.TheVariants as misses
+use Rattle.first_model.specs.State.{State, Claim, Arrival, claim_of, without_claim, marked_arrivals}
 
 abbrev pub IsDueMissed : State → ℕ → Root → Type 0
 IsDueMissed s lane root = IsSomeAnd (claim_of s.claims root) (λ (claim : Claim). claim.lane ≡ lane)

@@ -1,11 +1,11 @@
 //! The laws of the model, each the contract of a function that does nothing.
 
 ghost use Rattle.std.specs.Prelude.{◌≡◌, ℕ, ◌+◌, ◌++◌, List, length};
-ghost use Rattle.store_model.specs.declared.events.Event.{Event as EventOf};
-ghost use Rattle.store_model.specs.State.{State, Standing};
-ghost use Rattle.store_model.specs.Step.{IsDue, step};
-ghost use Rattle.store_model.specs.History.{IsLegal, after, GoesOn};
-ghost use Rattle.store_model.specs.Footprints.{footprint, KeepsRest};
+ghost use Rattle.first_model.specs.declared.events.Event.{Event as EventOf};
+ghost use Rattle.first_model.specs.State.{State, Standing};
+ghost use Rattle.first_model.specs.Step.{IsDue, step};
+ghost use Rattle.first_model.specs.History.{IsLegal, after, GoesOn};
+ghost use Rattle.first_model.specs.Footprints.{footprint, KeepsRest};
 
 use crate::events::META_LIMIT;
 

@@ -1,8 +1,8 @@
 -- Which parts of the state an act can change.
 use Rattle.std.specs.Prelude.{◌≡◌, Bool, true, false}
-use Rattle.store_model.specs.declared.events.Act.{Act}
-use Rattle.store_model.specs.declared.events.Act.TheVariants.{Boot, Begin, Want, Room, Land, Missed, GaveUp}
-use Rattle.store_model.specs.State.{State}
+use Rattle.first_model.specs.declared.events.Act.{Act}
+use Rattle.first_model.specs.declared.events.Act.TheVariants.{Boot, Begin, Want, Room, Land, Missed, GaveUp}
+use Rattle.first_model.specs.State.{State}
 
 -- The parts that may change. The books may change with any act.
 pub record Footprint : Type 0 where

@@ -9,10 +9,10 @@ use Rattle.package_indexes.specs.declared.Choice.TheVariants as choices
 use Rattle.package_indexes.specs.Indexes.{chosen}
 use Rattle.pkg_names.specs.Root.{root_eq}
 use Rattle.package_book.specs.Books.{book_at}
-use Rattle.store_model.specs.declared.events.BeginEnd.{BeginEnd}
-use Rattle.store_model.specs.declared.events.BeginEnd.TheVariants.{Ticket, InRecovery, NotFound, ListingFault, DiskRead, Rotten}
-use Rattle.store_model.specs.State.{State, Arrival, stored_len}
-use Rattle.store_model.specs.declared.events.TheConstants.{META_LIMIT}
+use Rattle.first_model.specs.declared.events.BeginEnd.{BeginEnd}
+use Rattle.first_model.specs.declared.events.BeginEnd.TheVariants.{Ticket, InRecovery, NotFound, ListingFault, DiskRead, Rotten}
+use Rattle.first_model.specs.State.{State, Arrival, stored_len}
+use Rattle.first_model.specs.declared.events.TheConstants.{META_LIMIT}
 
 abbrev pub is_recovery : Slot → Bool
 is_recovery slots.A = false

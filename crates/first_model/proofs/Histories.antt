@@ -1,9 +1,9 @@
 -- Histories that go on.
 use Rattle.std.proofs.Common.{◌≡◌, ℕ, ◌+◌, List, [], ◌∷◌, ◌++◌, length, ap, subst, ◌∙◌, arith}
-use Rattle.store_model.specs.declared.events.Event.{Event}
-use Rattle.store_model.specs.State.{State, Standing, opened}
-use Rattle.store_model.specs.Step.{IsDue, step}
-use Rattle.store_model.specs.History.{IsLegalFrom, IsLegal, after_from, after, GoesOn}
+use Rattle.first_model.specs.declared.events.Event.{Event}
+use Rattle.first_model.specs.State.{State, Standing, opened}
+use Rattle.first_model.specs.Step.{IsDue, step}
+use Rattle.first_model.specs.History.{IsLegalFrom, IsLegal, after_from, after, GoesOn}
 
 next_number : (number : ℕ) (es : List Event) → number + 1 + length es ≡ number + (length es + 1)
 next_number number es = omega arith

@@ -1,6 +1,6 @@
 -- A ticket is given up.
 use Rattle.std.specs.Prelude.{◌≡◌, ℕ, IsSomeAnd}
-use Rattle.store_model.specs.State.{State, Arrival, arrival_of, without_ticket}
+use Rattle.first_model.specs.State.{State, Arrival, arrival_of, without_ticket}
 
 abbrev pub IsDueGaveUp : State → ℕ → ℕ → Type 0
 IsDueGaveUp s lane ticket = IsSomeAnd (arrival_of s.arriving ticket) (λ (arrival : Arrival). arrival.lane ≡ lane)

@@ -2,7 +2,7 @@
 use Rattle.std.specs.Prelude.{◌≡◌, ℕ, Option, Some, None, IsSomeAnd, List}
 use Rattle.pkg_names.specs.declared.root.Root.{Root}
 use Rattle.fetch_queue.specs.declared.FetchEnd.{FetchEnd}
-use Rattle.store_model.specs.State.{State, Claim, Arrival, claim_of, with_room, without_claim, marked_arrivals}
+use Rattle.first_model.specs.State.{State, Claim, Arrival, claim_of, with_room, without_claim, marked_arrivals}
 
 pub record IsRoomless (by : ℕ) (claim : Claim) : Type 0 where
   pub lane : claim.lane ≡ by

@@ -5,12 +5,12 @@ use Rattle.pkg_names.specs.declared.root.Root.{Root}
 use Rattle.pkg_names.specs.Root.{root_eq}
 use Rattle.package_book.specs.Books.{Meta, Books, book_at}
 use Rattle.package_book.specs.Books.Meta.{Read, Long}
-use Rattle.store_model.specs.declared.events.LookedAt.{LookedAt}
-use Rattle.store_model.specs.declared.events.Event.{Event}
-use Rattle.store_model.specs.State.{State, Stored, stored_len, is_stored, has_root, protected_in}
-use Rattle.store_model.specs.declared.events.TheConstants.{META_LIMIT}
-use Rattle.store_model.specs.Settling.{with_looked, with_long, looked_books, kept_books, settle, KnowsAll, HasLooked}
-use Rattle.store_model.specs.Step.{IsDue, next, seen_by, step}
+use Rattle.first_model.specs.declared.events.LookedAt.{LookedAt}
+use Rattle.first_model.specs.declared.events.Event.{Event}
+use Rattle.first_model.specs.State.{State, Stored, stored_len, is_stored, has_root, protected_in}
+use Rattle.first_model.specs.declared.events.TheConstants.{META_LIMIT}
+use Rattle.first_model.specs.Settling.{with_looked, with_long, looked_books, kept_books, settle, KnowsAll, HasLooked}
+use Rattle.first_model.specs.Step.{IsDue, next, seen_by, step}
 use Rattle.pkg_names.proofs.Roots.{root_eq-true, root_eq-refl}
 
 -- what holds of both choices holds of the choice

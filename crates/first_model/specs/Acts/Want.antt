@@ -6,10 +6,10 @@ use Rattle.pkg_names.specs.declared.pinned.Pinned.{Pinned}
 use Rattle.fetch_queue.specs.declared.FetchEnd.{FetchEnd}
 use Rattle.package_book.specs.Alone.{names_alone}
 use Rattle.package_indexes.specs.Indexes.{root_at, with_root}
-use Rattle.store_model.specs.declared.events.WantEnd.{WantEnd}
-use Rattle.store_model.specs.declared.events.WantEnd.TheVariants.{Fetch, Opened, Failed}
-use Rattle.store_model.specs.declared.events.Cause.TheVariants as causes
-use Rattle.store_model.specs.State.{State, Stored, Claim, Arrival, Directory, is_stored, is_claimed, holds_claim, arrival_of, without_ticket}
+use Rattle.first_model.specs.declared.events.WantEnd.{WantEnd}
+use Rattle.first_model.specs.declared.events.WantEnd.TheVariants.{Fetch, Opened, Failed}
+use Rattle.first_model.specs.declared.events.Cause.TheVariants as causes
+use Rattle.first_model.specs.State.{State, Stored, Claim, Arrival, Directory, is_stored, is_claimed, holds_claim, arrival_of, without_ticket}
 
 -- all blobs that the package names are stored
 abbrev pub is_complete : State → Root → Bool

@@ -4,7 +4,7 @@ use Rattle.pkg_names.specs.declared.root.Root.{Root}
 use Rattle.fetch_queue.specs.declared.FetchEnd.{FetchEnd}
 use Rattle.fetch_queue.specs.declared.FetchEnd.TheVariants.{Wrong}
 use Rattle.pkg_names.specs.Root.{root_eq}
-use Rattle.store_model.specs.State.{State, Stored, Claim, Arrival, claim_of, without_claim, marked_arrivals}
+use Rattle.first_model.specs.State.{State, Stored, Claim, Arrival, claim_of, without_claim, marked_arrivals}
 
 -- it lands, or the bytes have another root
 abbrev pub IsLanding : Root → Option FetchEnd → Type 0

@@ -1,8 +1,8 @@
 -- Legal histories. Events are numbered from 1.
 use Rattle.std.specs.Prelude.{◌≡◌, ℕ, ◌+◌, List, [], ◌∷◌, ◌++◌, length}
-use Rattle.store_model.specs.declared.events.Event.{Event}
-use Rattle.store_model.specs.State.{State, Standing, opened}
-use Rattle.store_model.specs.Step.{IsDue, step}
+use Rattle.first_model.specs.declared.events.Event.{Event}
+use Rattle.first_model.specs.State.{State, Standing, opened}
+use Rattle.first_model.specs.Step.{IsDue, step}
 
 -- each event is due where it comes, from this state and number on
 abbrev pub IsLegalFrom : State → ℕ → List Event → Type 0
