@@ -1,3 +1,4 @@
 pub mod Lists
 pub mod Static
 pub mod Cached
+pub mod Judging

@@ -12,7 +12,7 @@ mod static_;
 pub use cached::read_cached;
 pub use fault::{CachedFault, ManifestFault, ManifestFile, StaticFault, SystemFault};
 pub use laws::limits;
-pub use list::{ENTRY_LIMIT, PinnedList};
+pub use list::{ENTRY_LIMIT, LIST_LIMIT, PinnedList};
 pub use pkg_names::Pinned;
 pub use static_::{read_static, texts_stand_for_what_is_read};
 

@@ -12,6 +12,9 @@ pub type PinnedList = Items<Pinned>;
 /// The most packages that a list has.
 pub const ENTRY_LIMIT: usize = 4096;
 
+/// The most bytes of a file with a list, which is what is read of one.
+pub const LIST_LIMIT: usize = 1_048_576;
+
 /// What is wrong with a list, by the number of its entry.
 #[derive(Clone, Copy, Debug, PartialEq, Eq)]
 pub(crate) enum ListFault {

@@ -1,0 +1,23 @@
+-- One file an act: when it is due, and the state after it. Marking has what the end of a fetch leaves.
+pub mod Marking
+pub mod Boot
+pub mod Begin
+pub mod Want
+pub mod Room
+pub mod Put
+pub mod Land
+pub mod Missed
+pub mod GaveUp
+pub mod OpenPath
+pub mod Read
+pub mod Check
+pub mod Close
+pub mod Collect
+pub mod Retain
+pub mod Stage
+pub mod Copy
+pub mod Seal
+pub mod Activate
+pub mod LeftStage
+pub mod Commit
+pub mod Refused

@@ -1,0 +1,14 @@
+pub mod State
+pub mod Packages
+pub mod Settling
+pub mod Systems
+pub mod Files
+pub mod Acts
+pub mod Step
+pub mod History
+pub mod Footprints
+pub mod Quiet
+pub mod Holding
+pub mod Replies
+pub mod Desk
+pub mod Calls

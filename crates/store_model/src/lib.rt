@@ -1,0 +1,23 @@
+//! The model of the store: its state, its events, which event is due in which state, the legal
+//! histories, and what a lane's desk at the store promises. `docs/model.md` of the repository tells it
+//! in words.
+#![tactic(auto)]
+
+mod desk;
+mod ends;
+mod events;
+mod laws;
+mod replies;
+
+pub use desk::{Desk, RETAIN_LIMIT};
+pub use ends::{
+    ActivateEnd, BeginEnd, Cause, CheckEnd, CopyEnd, Difference, Miss, PIECE_LIMIT, READ_LIMIT,
+    ReadEnd, RetainEnd, StageEnd, WantEnd,
+};
+pub use events::{Act, CallName, Event, Looked, LookedAt};
+pub use laws::{each_act_keeps_the_rest, histories_go_on, limits};
+pub use replies::{
+    ActivateReply, BeginReply, CheckReply, Claim, CloseReply, CollectReply, CommitReply, CopyReply,
+    Dir, LandReply, OpenReply, PutReply, ReadReply, RejectReply, RetainReply, RoomReply, SealReply,
+    StageReply, Ticket, WantReply,
+};
