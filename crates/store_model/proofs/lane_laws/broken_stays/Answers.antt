@@ -1,0 +1,5 @@
+use Rattle.store_model.proofs.LanesLasting.{stays_noted}
+use Rattle.store_model.proofs.lane_laws.broken_stays.Goals as goal
+
+pub returns-clause-history : goal.returns-clause-history
+returns-clause-history c = stays_noted

@@ -1,0 +1,57 @@
+//! The laws on lanes, claims, marks, collections and what lasts, each the contract of a function that does
+//! nothing.
+
+ghost use Rattle.std.specs.Prelude.{◌≡◌, ◌↔◌, ℕ, ◌++◌, List, filter, Bool, true, false, Option, Some, None, Contains, if◌then◌else◌};
+ghost use Rattle.pkg_names.specs.declared.root.Root.{Root};
+ghost use Rattle.package_book.specs.Names.{names};
+ghost use Rattle.store_model.specs.declared.events.Event.{Event as EventOf};
+ghost use Rattle.store_model.specs.declared.events.Act.TheVariants as acts;
+ghost use Rattle.store_model.specs.declared.events.CallName.{CallName as CallNameOf};
+ghost use Rattle.store_model.specs.State.{State, durable, stored_len, stock_roots, has_root, without_blobs, protected_in, is_committed};
+ghost use Rattle.store_model.specs.Packages.{rest};
+ghost use Rattle.store_model.specs.Step.{IsDue, step, is_end};
+ghost use Rattle.store_model.specs.History.{Origin, IsLegal, after};
+ghost use Rattle.store_model.specs.Lanes.{can_change_what_lasts};
+
+/// What lasts changes only when the store boots, a blob lands, a collection removes blobs, an update begins, a
+/// system is made active, and one is committed. A call in which a write failed changes nothing of it.
+pub fn what_lasts_changes_at_few_acts()
+    ensures { (s : State) (number : ℕ) (e : EventOf) → can_change_what_lasts e ≡ false
+        → durable (step s number e) ≡ durable s }
+{}
+
+/// The first write that fails is noted by the number of its event, and stays noted. What comes after it are
+/// ends and refusals, none of which writes, and a refusal names that number.
+pub fn broken_stays()
+    ensures before { (s : State) (number : ℕ) (e : EventOf) → IsDue s number e → e.broke ≡ true → s.broken ≡ None }
+    ensures noted { (s : State) (number : ℕ) (e : EventOf) → IsDue s number e → e.broke ≡ true
+        → (step s number e).broken ≡ Some number }
+    ensures only { (s : State) (number : ℕ) (e : EventOf) → IsDue s number e → e.broke ≡ false
+        → (step s number e).broken ≡ s.broken }
+    ensures stays { (s : State) (number first : ℕ) (e : EventOf) → IsDue s number e → s.broken ≡ Some first
+        → (step s number e).broken ≡ Some first }
+    ensures ends { (s : State) (number first : ℕ) (e : EventOf) → IsDue s number e → s.broken ≡ Some first
+        → is_end e.act ≡ true }
+    ensures refused { (s : State) (number : ℕ) (e : EventOf) (call : CallNameOf) (named : ℕ) → IsDue s number e
+        → e.act ≡ acts.Refused call named → s.broken ≡ Some named }
+    ensures history { (origin : Origin) (history more : List EventOf) (first : ℕ) → IsLegal origin (history ++ more)
+        → (after origin history).broken ≡ Some first → (after origin (history ++ more)).broken ≡ Some first }
+{}
+
+/// A collection is answered by the blobs that no protected package names, in the order of the stock, where the
+/// running system is to stay, and by nothing else. They and no others are gone after it.
+pub fn collections_remove_the_rest()
+    ensures answer { (s : State) (number : ℕ) (e : EventOf) (reply : Option (List Root)) → IsDue s number e
+        → e.act ≡ acts.Collect reply → reply ≡ (if is_committed s then Some (rest s) else None) }
+    ensures rest { (s : State) (root : Root) → Contains (rest s) root ↔ (Contains (stock_roots s.stock) root
+        × ((top : Root) → Contains (protected_in s) top → ¬ Contains (names top s.books) root)) }
+    ensures order { (s : State) → (goes : Root → Bool) × (rest s ≡ filter goes (stock_roots s.stock)) }
+    ensures stock { (s : State) (number : ℕ) (e : EventOf) (roots : List Root) → e.act ≡ acts.Collect (Some roots)
+        → e.broke ≡ false → (step s number e).stock ≡ without_blobs s.stock roots }
+    ensures gone { (s : State) (number : ℕ) (e : EventOf) (roots : List Root) (root : Root)
+        → e.act ≡ acts.Collect (Some roots) → e.broke ≡ false
+        → stored_len (step s number e).stock root ≡ (if has_root roots root then None else stored_len s.stock root) }
+    ensures none { (s : State) (number : ℕ) (e : EventOf) → e.act ≡ acts.Collect None
+        → (step s number e).stock ≡ s.stock }
+    ensures broke { (s : State) (number : ℕ) (e : EventOf) → e.broke ≡ true → (step s number e).stock ≡ s.stock }
+{}
