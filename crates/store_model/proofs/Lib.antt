@@ -1,3 +1,5 @@
 pub mod Histories
 pub mod Knowing
 pub mod LanesLasting
+pub mod LanesLists
+pub mod LanesMarks

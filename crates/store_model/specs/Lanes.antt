@@ -1,5 +1,5 @@
 -- What a lane holds in a state, and the words of the laws on lanes, claims, marks and collections.
-use Rattle.std.specs.Prelude.{◌≡◌, ◌≢◌, ◌<◌, ℕ, ◌==◌, Bool, true, false, List, map, filter, Option, Some, None, if◌then◌else◌}
+use Rattle.std.specs.Prelude.{◌≡◌, ◌≢◌, ◌<◌, ℕ, ◌==◌, Bool, true, false, List, map, filter, Option, Some, None, Contains, if◌then◌else◌}
 use Rattle.std.specs.List.{All, AllPairs}
 use Rattle.pkg_names.specs.declared.root.Root.{Root}
 use Rattle.fetch_queue.specs.declared.FetchEnd.{FetchEnd}
@@ -7,6 +7,7 @@ use Rattle.fetch_queue.specs.declared.FetchEnd.TheVariants as ends
 use Rattle.fetch_queue.specs.declared.queue.ClaimEntry.{ClaimEntry}
 use Rattle.open_tracker.specs.declared.dirs.DirEntry.{DirEntry}
 use Rattle.package_book.specs.Books.{Books}
+use Rattle.package_book.specs.Names.{names}
 use Rattle.store_model.specs.declared.events.Event.{Event}
 use Rattle.store_model.specs.declared.events.Act.{Act}
 use Rattle.store_model.specs.declared.events.Act.TheVariants.{Boot, Room, Put, Land, Missed, Collect, Stage, Activate, Commit}
@@ -108,6 +109,12 @@ told e = if e.broke then None else told_by e.act
 abbrev pub after_told : Books → Option Told → Arrival → Arrival
 after_told books None arrival = arrival
 after_told books (Some t) arrival = marked books t.root t.end arrival
+
+-- the event tells this end, of a blob that the package names
+pub record Marks (books : Books) (e : Event) (top : Root) (end : FetchEnd) : Type 0 where
+  pub root : Root
+  pub told : told e ≡ Some (record { root = root; end = end })
+  pub named : Contains (names top books) root
 
 -- ---- what lasts
 

@@ -3,15 +3,16 @@
 
 ghost use Rattle.std.specs.Prelude.{◌≡◌, ◌↔◌, ℕ, ◌++◌, List, filter, Bool, true, false, Option, Some, None, Contains, if◌then◌else◌};
 ghost use Rattle.pkg_names.specs.declared.root.Root.{Root};
+ghost use Rattle.fetch_queue.specs.declared.FetchEnd.{FetchEnd};
 ghost use Rattle.package_book.specs.Names.{names};
 ghost use Rattle.store_model.specs.declared.events.Event.{Event as EventOf};
 ghost use Rattle.store_model.specs.declared.events.Act.TheVariants as acts;
 ghost use Rattle.store_model.specs.declared.events.CallName.{CallName as CallNameOf};
-ghost use Rattle.store_model.specs.State.{State, durable, stored_len, stock_roots, has_root, without_blobs, protected_in, is_committed};
+ghost use Rattle.store_model.specs.State.{State, Arrival, arrival_of, durable, stored_len, stock_roots, has_root, without_blobs, protected_in, is_committed};
 ghost use Rattle.store_model.specs.Packages.{rest};
 ghost use Rattle.store_model.specs.Step.{IsDue, step, is_end};
 ghost use Rattle.store_model.specs.History.{Origin, IsLegal, after};
-ghost use Rattle.store_model.specs.Lanes.{can_change_what_lasts};
+ghost use Rattle.store_model.specs.Lanes.{can_change_what_lasts, told, after_told, Marks};
 
 /// What lasts changes only when the store boots, a blob lands, a collection removes blobs, an update begins, a
 /// system is made active, and one is committed. A call in which a write failed changes nothing of it.
@@ -54,4 +55,22 @@ pub fn collections_remove_the_rest()
     ensures none { (s : State) (number : ℕ) (e : EventOf) → e.act ≡ acts.Collect None
         → (step s number e).stock ≡ s.stock }
     ensures broke { (s : State) (number : ℕ) (e : EventOf) → e.broke ≡ true → (step s number e).stock ≡ s.stock }
+{}
+
+/// A ticket's mark is how the first fetch of one of its blobs ended that ended without the blob: it comes from an
+/// event that tells such an end, of a blob that the ticket's package names, and stays. All else of a ticket
+/// stays as long as the ticket does.
+pub fn marks_come_from_ends()
+    ensures each { (s : State) (number : ℕ) (e : EventOf) (ticket : ℕ) (old new : Arrival)
+        → arrival_of s.arriving ticket ≡ Some old → arrival_of (step s number e).arriving ticket ≡ Some new
+        → new ≡ after_told s.books (told e) old }
+    ensures first { (s : State) (number : ℕ) (e : EventOf) (ticket : ℕ) (old new : Arrival) (end : FetchEnd)
+        → arrival_of s.arriving ticket ≡ Some old → arrival_of (step s number e).arriving ticket ≡ Some new
+        → old.mark ≡ Some end → new.mark ≡ Some end }
+    ensures new { (s : State) (number : ℕ) (e : EventOf) (ticket : ℕ) (old new : Arrival) (end : FetchEnd)
+        → arrival_of s.arriving ticket ≡ Some old → arrival_of (step s number e).arriving ticket ≡ Some new
+        → old.mark ≡ None → new.mark ≡ Some end → Marks s.books e old.root end }
+    ensures unmarked { (s : State) (number : ℕ) (e : EventOf) (ticket : ℕ) (new : Arrival)
+        → arrival_of s.arriving ticket ≡ None → arrival_of (step s number e).arriving ticket ≡ Some new
+        → new.mark ≡ None }
 {}

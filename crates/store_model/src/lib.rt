@@ -16,7 +16,9 @@ pub use ends::{
     ReadEnd, RetainEnd, StageEnd, WantEnd,
 };
 pub use events::{Act, CallName, Event, Looked, LookedAt};
-pub use lane_laws::{broken_stays, collections_remove_the_rest, what_lasts_changes_at_few_acts};
+pub use lane_laws::{
+    broken_stays, collections_remove_the_rest, marks_come_from_ends, what_lasts_changes_at_few_acts,
+};
 pub use laws::{each_act_keeps_the_rest, histories_go_on, limits};
 pub use replies::{
     ActivateReply, BeginReply, CheckReply, Claim, CloseReply, CollectReply, CommitReply, CopyReply,
