@@ -37,7 +37,7 @@ data Becomes (books : Books) (t : Option Told) (old new : Option Arrival) : Type
 same : (books : Books) (old new : Option Arrival) → new ≡ old → Becomes books None old new
 same books old new is = Stays (is ∙ sym (option_map_id old))
 
-marked_lane : (books : Books) (root : Root) (end : FetchEnd) (arrival : Arrival) → (marked books root end arrival).lane ≡ arrival.lane
+pub marked_lane : (books : Books) (root : Root) (end : FetchEnd) (arrival : Arrival) → (marked books root end arrival).lane ≡ arrival.lane
 marked_lane books root end arrival = elim (cases_Bool (has_root (names arrival.root books) root)) [ inl holds ↦ rw holds refl | inr lacks ↦ rw lacks refl ]
 
 pub marked_ticket : (books : Books) (root : Root) (end : FetchEnd) (arrival : Arrival) → (marked books root end arrival).ticket ≡ arrival.ticket

@@ -3,3 +3,5 @@ pub mod Knowing
 pub mod LanesLasting
 pub mod LanesLists
 pub mod LanesMarks
+pub mod LanesOnce
+pub mod LanesApart

@@ -5,6 +5,7 @@ use Rattle.pkg_names.specs.declared.root.Root.{Root}
 use Rattle.fetch_queue.specs.declared.FetchEnd.{FetchEnd}
 use Rattle.fetch_queue.specs.declared.FetchEnd.TheVariants as ends
 use Rattle.fetch_queue.specs.declared.queue.ClaimEntry.{ClaimEntry}
+use Rattle.fetch_queue.specs.Fetches.{is_claimed}
 use Rattle.open_tracker.specs.declared.dirs.DirEntry.{DirEntry}
 use Rattle.package_book.specs.Books.{Books}
 use Rattle.package_book.specs.Names.{names}
@@ -16,7 +17,7 @@ use Rattle.store_model.specs.declared.ends.Miss.TheVariants as misses
 use Rattle.store_model.specs.declared.ends.StageEnd.TheVariants as stages
 use Rattle.store_model.specs.declared.ends.ActivateEnd.TheVariants as activations
 use Rattle.store_model.specs.State as states
-use Rattle.store_model.specs.State.{State, Stored, Arrival, is_stored}
+use Rattle.store_model.specs.State.{State, Stored, Arrival, is_stored, arrival_of, holds_claim}
 use Rattle.store_model.specs.Acts.Marking.{marked}
 
 -- ---- what a lane holds
@@ -35,7 +36,7 @@ tickets_of lane s = map unmarked (filter (λ (arrival : Arrival). arrival.lane =
 abbrev pub dirs_of : ℕ → State → List DirEntry
 dirs_of lane s = filter (λ (dir : DirEntry). dir.lane == lane) s.dirs
 
-abbrev if_of : ℕ → Option states.Stage → Option states.Stage
+abbrev pub if_of : ℕ → Option states.Stage → Option states.Stage
 if_of lane None = None
 if_of lane (Some stage) = if stage.lane == lane then Some stage else None
 
@@ -76,6 +77,17 @@ pub record StandOnce (s : State) (number : ℕ) : Type 0 where
 -- no root is stored twice
 abbrev pub AreBlobs : List Stored → Type 0
 AreBlobs stock = AllPairs (λ (a b : Stored). a.root ≢ b.root) stock
+
+-- A blob that the ticket's package names is granted to the lane: the ticket is the lane's, nobody has the
+-- blob or fetches it, and the lane fetches nothing else.
+pub record IsGranted (s : State) (by ticket : ℕ) (root : Root) : Type 0 where
+  pub arrival : Arrival
+  pub found : arrival_of s.arriving ticket ≡ Some arrival
+  pub lane : arrival.lane ≡ by
+  pub named : Contains (names arrival.root s.books) root
+  pub stored : is_stored s.stock root ≡ false
+  pub claimed : is_claimed s.claims root ≡ false
+  pub none : holds_claim s.claims by ≡ false
 
 -- ---- marks
 

@@ -1,18 +1,19 @@
 //! The laws on lanes, claims, marks, collections and what lasts, each the contract of a function that does
 //! nothing.
 
-ghost use Rattle.std.specs.Prelude.{◌≡◌, ◌↔◌, ℕ, ◌++◌, List, filter, Bool, true, false, Option, Some, None, Contains, if◌then◌else◌};
+ghost use Rattle.std.specs.Prelude.{◌≡◌, ◌≢◌, ◌↔◌, ℕ, ◌+◌, ◌++◌, List, length, filter, Bool, true, false, Option, Some, None, Contains, if◌then◌else◌};
 ghost use Rattle.pkg_names.specs.declared.root.Root.{Root};
 ghost use Rattle.fetch_queue.specs.declared.FetchEnd.{FetchEnd};
 ghost use Rattle.package_book.specs.Names.{names};
 ghost use Rattle.store_model.specs.declared.events.Event.{Event as EventOf};
 ghost use Rattle.store_model.specs.declared.events.Act.TheVariants as acts;
+ghost use Rattle.store_model.specs.declared.ends.WantEnd.TheVariants as wants;
 ghost use Rattle.store_model.specs.declared.events.CallName.{CallName as CallNameOf};
-ghost use Rattle.store_model.specs.State.{State, Arrival, arrival_of, durable, stored_len, stock_roots, has_root, without_blobs, protected_in, is_committed};
+ghost use Rattle.store_model.specs.State.{State, Arrival, arrival_of, claim_of, durable, stored_len, stock_roots, has_root, without_blobs, protected_in, is_committed};
 ghost use Rattle.store_model.specs.Packages.{rest};
 ghost use Rattle.store_model.specs.Step.{IsDue, step, is_end};
-ghost use Rattle.store_model.specs.History.{Origin, IsLegal, after};
-ghost use Rattle.store_model.specs.Lanes.{can_change_what_lasts, told, after_told, Marks};
+ghost use Rattle.store_model.specs.History.{Origin, start, IsLegal, after};
+ghost use Rattle.store_model.specs.Lanes.{HoldsSame, StandOnce, AreBlobs, IsGranted, can_change_what_lasts, told, after_told, Marks};
 
 /// What lasts changes only when the store boots, a blob lands, a collection removes blobs, an update begins, a
 /// system is made active, and one is committed. A call in which a write failed changes nothing of it.
@@ -73,4 +74,31 @@ pub fn marks_come_from_ends()
     ensures unmarked { (s : State) (number : ℕ) (e : EventOf) (ticket : ℕ) (new : Arrival)
         → arrival_of s.arriving ticket ≡ None → arrival_of (step s number e).arriving ticket ≡ Some new
         → new.mark ≡ None }
+{}
+
+/// A blob is granted to one lane at a time, and only while nobody has it: after each legal history no root is
+/// claimed twice, no claimed root is stored, a lane has one claim at most, and no ticket and no directory stands
+/// twice. Where the store begins with no root twice, none is ever stored twice.
+pub fn claims_are_granted_once()
+    ensures granted { (s : State) (number : ℕ) (e : EventOf) (ticket : ℕ) (root : Root) → IsDue s number e
+        → e.act ≡ acts.Want ticket (wants.Fetch root) → IsGranted s e.lane ticket root }
+    ensures made { (s : State) (number : ℕ) (e : EventOf) (ticket : ℕ) (root : Root) → IsDue s number e
+        → e.act ≡ acts.Want ticket (wants.Fetch root)
+        → claim_of (step s number e).claims root ≡ Some (record { root = root; lane = e.lane; len = None }) }
+    ensures event { (s : State) (number : ℕ) (e : EventOf) → IsDue s number e → StandOnce s number
+        → StandOnce (step s number e) (number + 1) }
+    ensures history { (origin : Origin) (history : List EventOf) → IsLegal origin history
+        → StandOnce (after origin history) (length history + 1) }
+    ensures stored { (origin : Origin) (history : List EventOf) → AreBlobs (start origin).stock
+        → IsLegal origin history → AreBlobs (after origin history).stock }
+{}
+
+/// An event of one lane leaves what another holds: its claim with its room, its tickets but for their marks, its
+/// directories, and its update.
+pub fn lanes_leave_each_other_alone()
+    ensures event { (s : State) (number : ℕ) (e : EventOf) (lane : ℕ) → StandOnce s number → IsDue s number e
+        → e.lane ≢ lane → HoldsSame lane s (step s number e) }
+    ensures history { (origin : Origin) (history : List EventOf) (e : EventOf) (lane : ℕ) → IsLegal origin history
+        → IsDue (after origin history) (length history + 1) e → e.lane ≢ lane
+        → HoldsSame lane (after origin history) (step (after origin history) (length history + 1) e) }
 {}
