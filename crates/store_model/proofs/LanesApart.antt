@@ -1,7 +1,7 @@
 -- An event of one lane leaves what another holds.
-use Rattle.std.proofs.Common.{◌≡◌, ◌≢◌, ℕ, ◌+◌, Bool, true, false, cond, not, List, [], ◌∷◌, ◌++◌, map, length, Option, Some, None, inl, inr, refl, sym, ap, subst, ◌∙◌, arith}
-use Rattle.std.specs.Prelude.{find, filter, ◌==◌, IsSomeAnd}
-use Rattle.std.proofs.lemmas.Bool.{cases_Bool, true≢false, eqb-true, ne_eqb, false_from_ne_true, not_from_false, and_parts}
+use Rattle.std.proofs.Common.{◌≡◌, ◌≢◌, ℕ, ◌+◌, Bool, true, false, cond, not, List, [], ◌∷◌, ◌++◌, map, length, Option, Some, None, inl, inr, refl, sym, ap, ◌∙◌}
+use Rattle.std.specs.Prelude.{filter, ◌==◌, IsSomeAnd}
+use Rattle.std.proofs.lemmas.Bool.{cases_Bool, eqb-true, ne_eqb, false_from_ne_true, not_from_false, and_parts}
 use Rattle.pkg_names.specs.declared.root.Root.{Root}
 use Rattle.pkg_names.specs.Root.{root_eq}
 use Rattle.pkg_names.proofs.Roots.{root_eq-true}
@@ -48,7 +48,7 @@ not_mine own mine lane other is = ne_eqb own mine (λ same. other (sym is ∙ sa
 
 -- ---- claims
 
-claims_apart : (root : Root) (a b : ClaimEntry) → a.root ≢ b.root → root_eq a.root root ≡ true → root_eq b.root root ≡ false
+pub claims_apart : (root : Root) (a b : ClaimEntry) → a.root ≢ b.root → root_eq a.root root ≡ true → root_eq b.root root ≡ false
 claims_apart root a b apart own = false_from_ne_true _ (λ also. apart (root_eq-true a.root root own ∙ sym (root_eq-true b.root root also)))
 
 claim_gone : (claims : List ClaimEntry) (lane mine : ℕ) (root : Root) (P : ClaimEntry → Type 0) (found : Option ClaimEntry) → lane ≢ mine → ((c : ClaimEntry) → P c → c.lane ≡ lane) → claim_of claims root ≡ found → IsSomeAnd found P → (stock : List states.Stored) → AreClaims claims stock
@@ -97,7 +97,7 @@ broken_claims s number lane act mine other may once = refl
 abbrev mine_of : ℕ → List Arrival → List Arrival
 mine_of mine arriving = map unmarked (filter (λ (a : Arrival). a.lane == mine) arriving)
 
-tickets_apart : (ticket : ℕ) (a b : Arrival) → a.ticket ≢ b.ticket → (a.ticket == ticket) ≡ true → (b.ticket == ticket) ≡ false
+pub tickets_apart : (ticket : ℕ) (a b : Arrival) → a.ticket ≢ b.ticket → (a.ticket == ticket) ≡ true → (b.ticket == ticket) ≡ false
 tickets_apart ticket a b apart own = ne_eqb b.ticket ticket (λ also. apart (eqb-true a.ticket ticket own ∙ sym also))
 
 ticket_gone : (arriving : List Arrival) (number lane mine ticket : ℕ) (P : Arrival → Type 0) (found : Option Arrival) → lane ≢ mine → ((a : Arrival) → P a → a.lane ≡ lane) → arrival_of arriving ticket ≡ found → IsSomeAnd found P → AreTickets arriving number

@@ -1,5 +1,5 @@
 -- The parts that an event keeps; the number of the write that failed stays; what a collection leaves.
-use Rattle.std.proofs.Common.{◌≡◌, ℕ, ◌+◌, Bool, true, false, cond, not, List, [], ◌∷◌, ◌++◌, Option, Some, None, inl, inr, refl, sym, ap, subst, ◌∙◌, rules}
+use Rattle.std.proofs.Common.{◌≡◌, ℕ, ◌+◌, true, cond, List, [], ◌∷◌, ◌++◌, Some, None, inl, inr, refl, ap, ◌∙◌, rules}
 use Rattle.std.proofs.lemmas.Bool.{cases_Bool}
 use Rattle.pkg_names.specs.declared.root.Root.{Root}
 use Rattle.pkg_names.specs.Root.{root_eq}

@@ -1,11 +1,11 @@
 -- What is found in a list, what a filter leaves of it, and elements that are apart.
-use Rattle.std.proofs.Common.{inl, inr, ◌≡◌, ◌≢◌, ℕ, suc, ◌<◌, Bool, true, false, cond, not, List, [], ◌∷◌, ◌++◌, map, length, get_or, Option, Some, None, All, refl, sym, ap, subst, ◌∙◌, arith}
+use Rattle.std.proofs.Common.{inl, inr, ◌≡◌, ◌≢◌, suc, ◌<◌, Bool, true, false, not, List, [], ◌∷◌, ◌++◌, map, length, get_or, Some, None, All, refl, sym, ap, subst, ◌∙◌, arith}
 use Rattle.std.specs.Prelude.{find, filter, Contains}
 use Rattle.std.specs.List.{AllPairs, list_any}
 use Rattle.std.specs.Option.{option_map}
 use Rattle.std.proofs.lemmas.Bool.{cases_Bool, true≢false, false_from_ne_true, not_from_false}
 use Rattle.std.proofs.lemmas.List.{get_or-map, length-map}
-use Rattle.std.proofs.lemmas.List.Elements.{All-nil, All-cons, All-head, All-tail}
+use Rattle.std.proofs.lemmas.List.Elements.{All-head, All-tail}
 use Rattle.std.proofs.lemmas.List.Folds.{list_any_at}
 
 one_more : {X : Type 0} {xs ys : List X} → (x : X) → xs ≡ ys → x ∷ xs ≡ x ∷ ys
@@ -180,4 +180,44 @@ filter_other mine (y ∷ xs) x out =
     elim (cases_Bool (mine y)) [
       | inl own ↦ rw own (one_more y (filter_other mine xs x out))
       | inr lacks ↦ rw lacks (filter_other mine xs x out)
+    ]
+
+-- ---- what is found in a filtered list
+
+pub found_mine : {X : Type 0} (is mine : X → Bool) (xs : List X) (x : X) → find is xs ≡ Some x → mine x ≡ true → find is (filter mine xs) ≡ Some x
+found_mine is mine [] x found own = absurd (cc found)
+found_mine is mine (y ∷ xs) x found own =
+    elim (cases_Bool (is y)) [
+      | inl holds ↦
+          let here : Some y ≡ Some x = rw holds at found in
+          let same : y ≡ x = cc here in
+          rw (ap mine same ∙ own, holds) here
+      | inr lacks ↦ elim (cases_Bool (mine y)) [
+        | inl too ↦ rw (too, lacks) (found_mine is mine xs x (rw lacks at found) own)
+        | inr out ↦ rw out (found_mine is mine xs x (rw lacks at found) own)
+      ]
+    ]
+
+found_none : {X : Type 0} (is mine : X → Bool) (xs : List X) → All (λ x. is x ≡ false) xs → find is (filter mine xs) ≡ None
+found_none is mine [] none = refl
+found_none is mine (y ∷ xs) none =
+    let lacks = All-head (λ x. is x ≡ false) y xs none in
+    let rest = found_none is mine xs (All-tail (λ x. is x ≡ false) y xs none) in
+    elim (cases_Bool (mine y)) [ inl own ↦ rw (own, lacks) rest | inr out ↦ rw out rest ]
+
+-- Where elements are apart, what is found among mine is what is found among all.
+pub found_whole : {X : Type 0} (is mine : X → Bool) (R : X → X → Type 0) → ((x y : X) → R x y → is x ≡ true → is y ≡ false) → (xs : List X) → AllPairs R xs → (x : X) → find is (filter mine xs) ≡ Some x → find is xs ≡ Some x
+found_whole is mine R apart [] pairs x found = absurd (cc found)
+found_whole is mine R apart (y ∷ xs) pairs x found =
+    elim (cases_Bool (mine y)) [
+      | inl own ↦ elim (cases_Bool (is y)) [
+        | inl holds ↦ let here : Some y ≡ Some x = rw (own, holds) at found in rw holds here
+        | inr lacks ↦ rw lacks (found_whole is mine R apart xs (apart_tail R y xs pairs) x (rw (own, lacks) at found))
+      ]
+      | inr out ↦ elim (cases_Bool (is y)) [
+        | inl holds ↦
+            let none = found_none is mine xs (λ k d lt. apart y (get_or xs k d) (apart_head R y xs pairs k d lt) holds) in
+            absurd (cc (none, rw out at found))
+        | inr lacks ↦ rw lacks (found_whole is mine R apart xs (apart_tail R y xs pairs) x (rw out at found))
+      ]
     ]

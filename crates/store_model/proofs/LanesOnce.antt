@@ -1,9 +1,8 @@
 -- No root is claimed twice, no claimed root is stored, a lane has one claim at most, and no ticket and no
 -- directory stands twice: each event keeps it so.
-use Rattle.std.proofs.Common.{◌≡◌, ◌≢◌, ℕ, ◌+◌, ◌<◌, Bool, true, false, cond, not, List, [], ◌∷◌, ◌++◌, ◌||◌, map, length, get_or, Option, Some, None, is_some, All, inl, inr, refl, sym, ap, subst, ◌∙◌, arith}
-use Rattle.std.specs.Prelude.{find, filter, ◌==◌, IsSomeAnd, Contains}
-use Rattle.std.specs.List.{AllPairs}
-use Rattle.std.proofs.lemmas.Bool.{cases_Bool, true≢false, false≢true, eqb-true, eq-eqb, ne_eqb, eqb-false, not-true, not_from_false, or_parts, or_from}
+use Rattle.std.proofs.Common.{◌≡◌, ◌≢◌, ℕ, ◌+◌, ◌<◌, Bool, true, false, cond, not, List, [], ◌∷◌, ◌++◌, ◌||◌, length, Option, Some, None, is_some, All, inl, inr, refl, sym, ap, subst, ◌∙◌, arith}
+use Rattle.std.specs.Prelude.{◌==◌, IsSomeAnd, Contains}
+use Rattle.std.proofs.lemmas.Bool.{cases_Bool, true≢false, eq-eqb, not-true, or_parts, or_from}
 use Rattle.std.proofs.lemmas.List.Elements.{All-nil, All-cons, All-map, All-filter, All-push, All-weaker, All-contains_itself, filter_passes}
 use Rattle.std.proofs.lemmas.List.Kept.{AllPairs-filter}
 use Rattle.std.proofs.lemmas.List.Quantifiers.{all_pairs_push}
@@ -20,20 +19,17 @@ use Rattle.package_book.specs.Names.{names}
 use Rattle.store_model.specs.declared.events.Event.{Event}
 use Rattle.store_model.specs.declared.events.CallName.TheVariants as calls
 use Rattle.store_model.specs.declared.events.Act.{Act}
-use Rattle.store_model.specs.declared.events.Act.TheVariants.{Boot, Begin, Want, Room, Put, Land, Missed, GaveUp, OpenPath, Close, Collect, Refused}
+use Rattle.store_model.specs.declared.events.Act.TheVariants.{Begin, Want, Room, Put, Land, Missed, GaveUp, OpenPath, Close, Collect, Refused}
 use Rattle.store_model.specs.declared.ends.BeginEnd.TheVariants as begins
-use Rattle.store_model.specs.declared.ends.WantEnd.{WantEnd}
 use Rattle.store_model.specs.declared.ends.WantEnd.TheVariants as wants
-use Rattle.store_model.specs.declared.ends.Cause.TheVariants as causes
 use Rattle.store_model.specs.declared.ends.Miss.TheVariants as misses
 use Rattle.package_book.specs.declared.fault.PackageFault.{PackageFault}
 use Rattle.store_model.specs.State.{State, Stored, Arrival, opened, factory, arrival_of, claim_of, holds_claim, without_ticket, stored_len, is_stored, has_root, without_blobs}
 use Rattle.store_model.specs.Packages.{known_fault, is_complete}
 use Rattle.store_model.specs.Acts.Marking.{marked, marked_arrivals}
-use Rattle.store_model.specs.Acts.Want.{is_free, first_free, answer_for, want_answer, IsAnswered, IsDueWant, with_directory}
+use Rattle.store_model.specs.Acts.Want.{is_free, first_free, answer_for, IsAnswered, IsDueWant, with_directory}
 use Rattle.store_model.specs.Acts.Put.{IsRoomOf}
 use Rattle.store_model.specs.Step.{IsDue, IsActDue, IsActDueIf, MayWrite, next, next_broken, step}
-use Rattle.store_model.specs.Footprints.{footprint_of}
 use Rattle.store_model.specs.History.{Beginning, Origin, start, IsLegalFrom, IsLegal, after_from, after}
 use Rattle.store_model.specs.History.Beginning.{Lasted, Factory}
 use Rattle.store_model.specs.Lanes.{AreClaims, AreTickets, AreDirs, AreBlobs, StandOnce, IsGranted}
@@ -51,9 +47,9 @@ stored_more (b ∷ stock) blob root = elim (cases_Bool (root_eq b.root root)) [ 
 stored_less : (stock : List Stored) (roots : List Root) (root : Root) → is_stored stock root ≡ false → is_stored (without_blobs stock roots) root ≡ false
 stored_less stock roots root out =
     ap (λ (len : Option ℕ). is_some len) (left_len stock roots root) ∙ by_test (has_root roots root) where
-  by_test : (b : Bool) → is_some (cond b None (stored_len stock root)) ≡ false
-  by_test true = refl
-  by_test false = out
+      by_test : (b : Bool) → is_some (cond b None (stored_len stock root)) ≡ false
+      by_test true = refl
+      by_test false = out
 
 apart_from_stock : (stock : List Stored) (root : Root) → is_stored stock root ≡ false → All (λ (b : Stored). b.root ≢ root) stock
 apart_from_stock [] root out = All-nil (λ (b : Stored). b.root ≢ root)
@@ -105,8 +101,8 @@ claims_landed claims stock blob once =
           (λ c out other. stored_more stock blob c.root ∙ or_from _ _ out (swapped blob.root c.root (not-true _ other)))
           (without_claim claims blob.root) left.missing (filter_passes (λ (c : ClaimEntry). not (root_eq c.root blob.root)) claims);
     } where
-  swapped : (a b : Root) → root_eq b a ≡ false → root_eq a b ≡ false
-  swapped a b lacks = elim (cases_Bool (root_eq a b)) [ inl holds ↦ absurd (true≢false (sym (root_eq-same b a (sym (root_eq-true a b holds))) ∙ lacks)) | inr other ↦ other ]
+      swapped : (a b : Root) → root_eq b a ≡ false → root_eq a b ≡ false
+      swapped a b lacks = elim (cases_Bool (root_eq a b)) [ inl holds ↦ absurd (true≢false (sym (root_eq-same b a (sym (root_eq-true a b holds))) ∙ lacks)) | inr other ↦ other ]
 
 claims_collected : (claims : List ClaimEntry) (stock : List Stored) (roots : List Root) → AreClaims claims stock → AreClaims claims (without_blobs stock roots)
 claims_collected claims stock roots once = record {

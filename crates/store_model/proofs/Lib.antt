@@ -5,3 +5,4 @@ pub mod LanesLists
 pub mod LanesMarks
 pub mod LanesOnce
 pub mod LanesApart
+pub mod LanesKept

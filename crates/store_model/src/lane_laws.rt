@@ -4,6 +4,8 @@
 ghost use Rattle.std.specs.Prelude.{◌≡◌, ◌≢◌, ◌↔◌, ℕ, ◌+◌, ◌++◌, List, length, filter, Bool, true, false, Option, Some, None, Contains, if◌then◌else◌};
 ghost use Rattle.pkg_names.specs.declared.root.Root.{Root};
 ghost use Rattle.fetch_queue.specs.declared.FetchEnd.{FetchEnd};
+ghost use Rattle.fetch_queue.specs.declared.queue.ClaimEntry.{ClaimEntry};
+ghost use Rattle.open_tracker.specs.Directories.{root_of};
 ghost use Rattle.package_book.specs.Names.{names};
 ghost use Rattle.store_model.specs.declared.events.Event.{Event as EventOf};
 ghost use Rattle.store_model.specs.declared.events.Act.TheVariants as acts;
@@ -11,15 +13,18 @@ ghost use Rattle.store_model.specs.declared.ends.WantEnd.TheVariants as wants;
 ghost use Rattle.store_model.specs.declared.events.CallName.{CallName as CallNameOf};
 ghost use Rattle.store_model.specs.State.{State, Arrival, arrival_of, claim_of, durable, stored_len, stock_roots, has_root, without_blobs, protected_in, is_committed};
 ghost use Rattle.store_model.specs.Packages.{rest};
-ghost use Rattle.store_model.specs.Step.{IsDue, step, is_end};
+ghost use Rattle.store_model.specs.Step.{IsDue, step, meant, is_end};
 ghost use Rattle.store_model.specs.History.{Origin, start, IsLegal, after};
 ghost use Rattle.store_model.specs.Lanes.{HoldsSame, StandOnce, AreBlobs, IsGranted, can_change_what_lasts, told, after_told, Marks};
 
 /// What lasts changes only when the store boots, a blob lands, a collection removes blobs, an update begins, a
-/// system is made active, and one is committed. A call in which a write failed changes nothing of it.
+/// system is made active, and one is committed. A call in which a write failed changes nothing of it; what it
+/// was to leave is what the event leaves in which none failed.
 pub fn what_lasts_changes_at_few_acts()
-    ensures { (s : State) (number : ℕ) (e : EventOf) → can_change_what_lasts e ≡ false
+    ensures same { (s : State) (number : ℕ) (e : EventOf) → can_change_what_lasts e ≡ false
         → durable (step s number e) ≡ durable s }
+    ensures meant { (s : State) (number : ℕ) (e : EventOf) → e.broke ≡ false
+        → meant s number e.lane e.act ≡ durable (step s number e) }
 {}
 
 /// The first write that fails is noted by the number of its event, and stays noted. What comes after it are
@@ -94,11 +99,20 @@ pub fn claims_are_granted_once()
 {}
 
 /// An event of one lane leaves what another holds: its claim with its room, its tickets but for their marks, its
-/// directories, and its update.
+/// directories, and its update. So what another lane holds is looked up as before; a ticket's mark is as the
+/// event tells.
 pub fn lanes_leave_each_other_alone()
     ensures event { (s : State) (number : ℕ) (e : EventOf) (lane : ℕ) → StandOnce s number → IsDue s number e
         → e.lane ≢ lane → HoldsSame lane s (step s number e) }
     ensures history { (origin : Origin) (history : List EventOf) (e : EventOf) (lane : ℕ) → IsLegal origin history
         → IsDue (after origin history) (length history + 1) e → e.lane ≢ lane
         → HoldsSame lane (after origin history) (step (after origin history) (length history + 1) e) }
+    ensures claim { (s : State) (number : ℕ) (e : EventOf) (root : Root) (claim : ClaimEntry) → StandOnce s number
+        → IsDue s number e → claim_of s.claims root ≡ Some claim → e.lane ≢ claim.lane
+        → claim_of (step s number e).claims root ≡ Some claim }
+    ensures ticket { (s : State) (number : ℕ) (e : EventOf) (ticket : ℕ) (arrival : Arrival) → StandOnce s number
+        → IsDue s number e → arrival_of s.arriving ticket ≡ Some arrival → e.lane ≢ arrival.lane
+        → arrival_of (step s number e).arriving ticket ≡ Some (after_told s.books (told e) arrival) }
+    ensures dir { (s : State) (number : ℕ) (e : EventOf) (dir lane : ℕ) → StandOnce s number → IsDue s number e
+        → e.lane ≢ lane → root_of (step s number e).dirs dir lane ≡ root_of s.dirs dir lane }
 {}
