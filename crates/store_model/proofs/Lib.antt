@@ -1,7 +1,7 @@
 pub mod Histories
 pub mod Knowing
 pub mod LanesLasting
-pub mod LanesLists
+mod LanesLists
 pub mod LanesMarks
 pub mod LanesOnce
 pub mod LanesApart

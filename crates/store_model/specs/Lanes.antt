@@ -1,5 +1,5 @@
 -- What a lane holds in a state, and the words of the laws on lanes, claims, marks and collections.
-use Rattle.std.specs.Prelude.{◌≡◌, ◌≢◌, ◌<◌, ℕ, ◌==◌, Bool, true, false, List, map, filter, Option, Some, None, Contains, if◌then◌else◌}
+use Rattle.std.specs.Prelude.{◌≡◌, ◌≢◌, ◌<◌, ◌+◌, ℕ, ◌==◌, Bool, true, false, List, length, slice_index_or, map, filter, Option, Some, None, Contains, if◌then◌else◌}
 use Rattle.std.specs.List.{All, AllPairs}
 use Rattle.pkg_names.specs.declared.root.Root.{Root}
 use Rattle.fetch_queue.specs.declared.FetchEnd.{FetchEnd}
@@ -127,6 +127,19 @@ pub record Marks (books : Books) (e : Event) (top : Root) (end : FetchEnd) : Typ
   pub root : Root
   pub told : told e ≡ Some (record { root = root; end = end })
   pub named : Contains (names top books) root
+
+-- ---- a write that failed
+
+-- a write failed in the event at this place
+abbrev pub BrokeAt : List Event → ℕ → Type 0
+BrokeAt history place = (e : Event) → (slice_index_or history place e).broke ≡ true
+
+-- a write failed in the event of this number
+pub record BrokeIn (history : List Event) (named : ℕ) : Type 0 where
+  pub place : ℕ
+  pub number : named ≡ place + 1
+  pub within : place < length history
+  pub broke : BrokeAt history place
 
 -- ---- what lasts
 

@@ -15,7 +15,7 @@ ghost use Rattle.store_model.specs.State.{State, Arrival, arrival_of, claim_of, 
 ghost use Rattle.store_model.specs.Packages.{rest};
 ghost use Rattle.store_model.specs.Step.{IsDue, step, meant, is_end};
 ghost use Rattle.store_model.specs.History.{Origin, start, IsLegal, after};
-ghost use Rattle.store_model.specs.Lanes.{HoldsSame, StandOnce, AreBlobs, IsGranted, can_change_what_lasts, told, after_told, Marks};
+ghost use Rattle.store_model.specs.Lanes.{HoldsSame, BrokeIn, StandOnce, AreBlobs, IsGranted, can_change_what_lasts, told, after_told, Marks};
 
 /// What lasts changes only when the store boots, a blob lands, a collection removes blobs, an update begins, a
 /// system is made active, and one is committed. A call in which a write failed changes nothing of it; what it
@@ -43,6 +43,8 @@ pub fn broken_stays()
         → e.act ≡ acts.Refused call named → s.broken ≡ Some named }
     ensures history { (origin : Origin) (history more : List EventOf) (first : ℕ) → IsLegal origin (history ++ more)
         → (after origin history).broken ≡ Some first → (after origin (history ++ more)).broken ≡ Some first }
+    ensures broke { (origin : Origin) (history : List EventOf) (first : ℕ) → IsLegal origin history
+        → (after origin history).broken ≡ Some first → BrokeIn history first }
 {}
 
 /// A collection is answered by the blobs that no protected package names, in the order of the stock, where the
