@@ -6,3 +6,4 @@ pub mod LanesMarks
 pub mod LanesOnce
 pub mod LanesApart
 pub mod LanesKept
+pub mod LanesQuiet

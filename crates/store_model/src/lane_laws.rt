@@ -9,10 +9,15 @@ ghost use Rattle.open_tracker.specs.Directories.{root_of};
 ghost use Rattle.package_book.specs.Names.{names};
 ghost use Rattle.store_model.specs.declared.events.Event.{Event as EventOf};
 ghost use Rattle.store_model.specs.declared.events.Act.TheVariants as acts;
+ghost use Rattle.store_model.specs.declared.ends.WantEnd.{WantEnd as WantEndOf};
 ghost use Rattle.store_model.specs.declared.ends.WantEnd.TheVariants as wants;
 ghost use Rattle.store_model.specs.declared.events.CallName.{CallName as CallNameOf};
-ghost use Rattle.store_model.specs.State.{State, Arrival, arrival_of, claim_of, durable, stored_len, stock_roots, has_root, without_blobs, protected_in, is_committed};
+ghost use Rattle.store_model.specs.State.{State, Arrival, arrival_of, claim_of, holds_claim, durable, stored_len, stock_roots, has_root, without_blobs, protected_in, is_committed};
 ghost use Rattle.store_model.specs.Packages.{rest};
+ghost use Rattle.store_model.specs.Settling.{KnowsAll};
+ghost use Rattle.store_model.specs.Acts.GaveUp.{IsTicketOf};
+ghost use Rattle.store_model.specs.Acts.Want.{IsDueWant};
+ghost use Rattle.store_model.specs.Quiet.{IsQuiet};
 ghost use Rattle.store_model.specs.Step.{IsDue, step, meant, is_end};
 ghost use Rattle.store_model.specs.History.{Origin, start, IsLegal, after};
 ghost use Rattle.store_model.specs.Lanes.{HoldsSame, BrokeIn, StandOnce, AreBlobs, IsGranted, can_change_what_lasts, told, after_told, Marks};
@@ -117,4 +122,18 @@ pub fn lanes_leave_each_other_alone()
         → arrival_of (step s number e).arriving ticket ≡ Some (after_told s.books (told e) arrival) }
     ensures dir { (s : State) (number : ℕ) (e : EventOf) (dir lane : ℕ) → StandOnce s number → IsDue s number e
         → e.lane ≢ lane → root_of (step s number e).dirs dir lane ≡ root_of s.dirs dir lane }
+{}
+
+/// A lane that fetches nothing waits for what is missing exactly where it is quiet: after a legal history, no
+/// answer to its ticket is due just where some blob is missing and another lane fetches each that is. The books
+/// know each protected package that is stored, so a package whose blobs are there is never waited for.
+pub fn lanes_wait_where_it_is_quiet()
+    ensures state { (s : State) (lane ticket : ℕ) → KnowsAll s.books (protected_in s) s.stock
+        → IsTicketOf s lane ticket → holds_claim s.claims lane ≡ false
+        → IsQuiet s lane ticket ↔ ((reply : WantEndOf) → ¬ IsDueWant s lane ticket reply) }
+    ensures known { (origin : Origin) (history : List EventOf) → IsLegal origin history
+        → let s = after origin history in KnowsAll s.books (protected_in s) s.stock }
+    ensures history { (origin : Origin) (history : List EventOf) (lane ticket : ℕ) → IsLegal origin history
+        → let s = after origin history in IsTicketOf s lane ticket → holds_claim s.claims lane ≡ false
+        → IsQuiet s lane ticket ↔ ((reply : WantEndOf) → ¬ IsDueWant s lane ticket reply) }
 {}
