@@ -149,7 +149,3 @@ knows_start origin = by_beginning origin.beginning where
 
 pub knows_always : (origin : Origin) (history : List Event) → IsLegal origin history → KnowsAll (after origin history).books (protected_in (after origin history)) (after origin history).stock
 knows_always origin history legal = knows_from (start origin) 1 history (knows_start origin) legal
-
-pub waits_after : (origin : Origin) (history : List Event) (lane ticket : ℕ) → IsLegal origin history → IsTicketOf (after origin history) lane ticket → holds_claim (after origin history).claims lane ≡ false
-    → IsQuiet (after origin history) lane ticket ↔ ((reply : WantEnd) → ¬ IsDueWant (after origin history) lane ticket reply)
-waits_after origin history lane ticket legal own free = waits (after origin history) lane ticket (knows_always origin history legal) own free

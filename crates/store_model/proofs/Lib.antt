@@ -7,3 +7,4 @@ pub mod LanesOnce
 pub mod LanesApart
 pub mod LanesKept
 pub mod LanesQuiet
+pub mod LanesDue

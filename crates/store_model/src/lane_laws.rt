@@ -124,16 +124,21 @@ pub fn lanes_leave_each_other_alone()
         → e.lane ≢ lane → root_of (step s number e).dirs dir lane ≡ root_of s.dirs dir lane }
 {}
 
-/// A lane that fetches nothing waits for what is missing exactly where it is quiet: after a legal history, no
-/// answer to its ticket is due just where some blob is missing and another lane fetches each that is. The books
-/// know each protected package that is stored, so a package whose blobs are there is never waited for.
+/// A lane that fetches nothing waits for what is missing exactly where it is quiet: after a legal history, if no
+/// write has failed, no answer to its ticket is due just where some blob is missing and another lane fetches each
+/// that is. The books know each protected package that is stored, so one whose blobs are there is never waited for.
 pub fn lanes_wait_where_it_is_quiet()
+    ensures known { (origin : Origin) (history : List EventOf) → IsLegal origin history
+        → let s = after origin history in KnowsAll s.books (protected_in s) s.stock }
     ensures state { (s : State) (lane ticket : ℕ) → KnowsAll s.books (protected_in s) s.stock
         → IsTicketOf s lane ticket → holds_claim s.claims lane ≡ false
         → IsQuiet s lane ticket ↔ ((reply : WantEndOf) → ¬ IsDueWant s lane ticket reply) }
-    ensures known { (origin : Origin) (history : List EventOf) → IsLegal origin history
-        → let s = after origin history in KnowsAll s.books (protected_in s) s.stock }
     ensures history { (origin : Origin) (history : List EventOf) (lane ticket : ℕ) → IsLegal origin history
-        → let s = after origin history in IsTicketOf s lane ticket → holds_claim s.claims lane ≡ false
-        → IsQuiet s lane ticket ↔ ((reply : WantEndOf) → ¬ IsDueWant s lane ticket reply) }
+        → let s = after origin history in s.booted ≡ true → s.broken ≡ None → IsTicketOf s lane ticket
+        → holds_claim s.claims lane ≡ false
+        → IsQuiet s lane ticket ↔ ((reply : WantEndOf) → ¬ IsDue s (length history + 1) (record {
+          lane = lane;
+          act = acts.Want ticket reply;
+          broke = false;
+        })) }
 {}
