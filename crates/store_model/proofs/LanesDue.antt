@@ -27,7 +27,7 @@ use Rattle.store_model.proofs.LanesLists.{any_made}
 
 -- ---- what is protected after an answer was before
 
-parts : (root : Root) (base cached active : List Pinned) (retained arriving dirs : List Root)
+pub parts : (root : Root) (base cached active : List Pinned) (retained arriving dirs : List Root)
     → has_root (protected base cached active retained arriving dirs) root
     ≡ (((((has_root (roots_of base) root || has_root (roots_of cached) root) || has_root (roots_of active) root) || has_root retained root) || has_root arriving root) || has_root dirs root)
 parts root base cached active retained arriving dirs = simp list_any-append

@@ -111,7 +111,7 @@ pub first_stays : (s : State) (number : ℕ) (e : Event) (ticket : ℕ) (old new
 first_stays s number e ticket old new end was now is =
     ap (λ (a : Arrival). a.mark) (each s number e ticket old new was now) ∙ first_so s.books (told e) old end is
 
-names_it : (tops : List Root) (root : Root) → has_root tops root ≡ true → Contains tops root
+pub names_it : (tops : List Root) (root : Root) → has_root tops root ≡ true → Contains tops root
 names_it tops root has =
     let found = Contains-any (λ other. root_eq other root) tops has in
     subst (Contains tops) (root_eq-true found.0 root found.2) found.1

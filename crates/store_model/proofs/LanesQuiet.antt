@@ -58,7 +58,7 @@ unknown None none fault = refl
 unknown (Some meta) none fault = absurd (no_book (book_of meta) none fault)
 
 -- a package that arrives is protected
-arriving_protected : (s : State) (ticket : ℕ) (arrival : Arrival) → arrival_of s.arriving ticket ≡ Some arrival → has_root (protected_in s) arrival.root ≡ true
+pub arriving_protected : (s : State) (ticket : ℕ) (arrival : Arrival) → arrival_of s.arriving ticket ≡ Some arrival → has_root (protected_in s) arrival.root ≡ true
 arriving_protected s ticket arrival found =
     let is = λ (other : Root). root_eq other arrival.root in
     let before = roots_of s.base ++ roots_of s.cached ++ roots_of s.active ++ s.retained in

@@ -2,6 +2,7 @@
 //! nothing.
 
 ghost use Rattle.std.specs.Prelude.{◌≡◌, ◌≢◌, ◌↔◌, ℕ, ◌+◌, ◌++◌, List, length, filter, Bool, true, false, Option, Some, None, Contains, if◌then◌else◌};
+ghost use Rattle.pkg_names.specs.NameAndVariant.{NameAndVariant};
 ghost use Rattle.pkg_names.specs.declared.root.Root.{Root};
 ghost use Rattle.fetch_queue.specs.declared.FetchEnd.{FetchEnd};
 ghost use Rattle.fetch_queue.specs.declared.queue.ClaimEntry.{ClaimEntry};
@@ -16,6 +17,7 @@ ghost use Rattle.store_model.specs.State.{State, Arrival, arrival_of, claim_of, 
 ghost use Rattle.store_model.specs.Packages.{rest};
 ghost use Rattle.store_model.specs.Settling.{KnowsAll};
 ghost use Rattle.store_model.specs.Acts.GaveUp.{IsTicketOf};
+ghost use Rattle.store_model.specs.Acts.OpenPath.{root_to_open};
 ghost use Rattle.store_model.specs.Acts.Want.{IsDueWant};
 ghost use Rattle.store_model.specs.Quiet.{IsQuiet};
 ghost use Rattle.store_model.specs.Step.{IsDue, step, meant, is_end};
@@ -68,6 +70,22 @@ pub fn collections_remove_the_rest()
     ensures none { (s : State) (number : ℕ) (e : EventOf) → e.act ≡ acts.Collect None
         → (step s number e).stock ≡ s.stock }
     ensures broke { (s : State) (number : ℕ) (e : EventOf) → e.broke ≡ true → (step s number e).stock ≡ s.stock }
+{}
+
+/// No collection takes a blob of a package that arrives, is open or retained, or that a path would open.
+pub fn collections_spare_what_is_held()
+    ensures arriving { (s : State) (number : ℕ) (e : EventOf) (roots : List Root) (ticket : ℕ)
+        (arrival : Arrival) (root : Root) → IsDue s number e → e.act ≡ acts.Collect (Some roots)
+        → arrival_of s.arriving ticket ≡ Some arrival → Contains (names arrival.root s.books) root → ¬ Contains roots root }
+    ensures dir { (s : State) (number : ℕ) (e : EventOf) (roots : List Root) (dir lane : ℕ) (top root : Root)
+        → IsDue s number e → e.act ≡ acts.Collect (Some roots) → root_of s.dirs dir lane ≡ Some top
+        → Contains (names top s.books) root → ¬ Contains roots root }
+    ensures retained { (s : State) (number : ℕ) (e : EventOf) (roots : List Root) (top root : Root)
+        → IsDue s number e → e.act ≡ acts.Collect (Some roots) → Contains s.retained top
+        → Contains (names top s.books) root → ¬ Contains roots root }
+    ensures path { (s : State) (number : ℕ) (e : EventOf) (roots : List Root) (path : NameAndVariant) (top root : Root)
+        → IsDue s number e → e.act ≡ acts.Collect (Some roots) → root_to_open s path ≡ Some top
+        → Contains (names top s.books) root → ¬ Contains roots root }
 {}
 
 /// A ticket's mark is how the first fetch of one of its blobs ended that ended without the blob: it comes from an
