@@ -9,3 +9,4 @@ pub mod LanesKept
 pub mod LanesQuiet
 pub mod LanesDue
 pub mod LanesSpared
+pub mod LanesEnds

@@ -22,7 +22,7 @@ ghost use Rattle.store_model.specs.Acts.Want.{IsDueWant};
 ghost use Rattle.store_model.specs.Quiet.{IsQuiet};
 ghost use Rattle.store_model.specs.Step.{IsDue, step, meant, is_end};
 ghost use Rattle.store_model.specs.History.{Origin, start, IsLegal, after};
-ghost use Rattle.store_model.specs.Lanes.{HoldsSame, BrokeIn, StandOnce, AreBlobs, IsGranted, can_change_what_lasts, told, after_told, Marks};
+ghost use Rattle.store_model.specs.Lanes.{HoldsSame, BrokeIn, StandOnce, AreBlobs, IsGranted, ends_claim_of, after_room, can_change_what_lasts, told, after_told, Marks};
 
 /// What lasts changes only when the store boots, a blob lands, a collection removes blobs, an update begins, a
 /// system is made active, and one is committed. A call in which a write failed changes nothing of it; what it
@@ -106,15 +106,21 @@ pub fn marks_come_from_ends()
         → new.mark ≡ None }
 {}
 
-/// A blob is granted to one lane at a time, and only while nobody has it: after each legal history no root is
-/// claimed twice, no claimed root is stored, a lane has one claim at most, and no ticket and no directory stands
-/// twice. Where the store begins with no root twice, none is ever stored twice.
+/// A blob is granted to one lane at a time, and only while nobody has it. A claim stays as it is, but for its
+/// room, until an event ends it, and is gone after that. After each legal history no root is claimed twice, no
+/// claimed root is stored, a lane has one claim at most, and no ticket and no directory stands twice. Where the
+/// store begins with no root twice, none is ever stored twice.
 pub fn claims_are_granted_once()
     ensures granted { (s : State) (number : ℕ) (e : EventOf) (ticket : ℕ) (root : Root) → IsDue s number e
         → e.act ≡ acts.Want ticket (wants.Fetch root) → IsGranted s e.lane ticket root }
     ensures made { (s : State) (number : ℕ) (e : EventOf) (ticket : ℕ) (root : Root) → IsDue s number e
         → e.act ≡ acts.Want ticket (wants.Fetch root)
         → claim_of (step s number e).claims root ≡ Some (record { root = root; lane = e.lane; len = None }) }
+    ensures stays { (s : State) (number : ℕ) (e : EventOf) (root : Root) (claim : ClaimEntry)
+        → claim_of s.claims root ≡ Some claim → ends_claim_of e ≢ Some root
+        → claim_of (step s number e).claims root ≡ Some (after_room e claim) }
+    ensures ends { (s : State) (number : ℕ) (e : EventOf) (root : Root) → ends_claim_of e ≡ Some root
+        → claim_of (step s number e).claims root ≡ None }
     ensures event { (s : State) (number : ℕ) (e : EventOf) → IsDue s number e → StandOnce s number
         → StandOnce (step s number e) (number + 1) }
     ensures history { (origin : Origin) (history : List EventOf) → IsLegal origin history
