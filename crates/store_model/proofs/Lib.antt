@@ -10,3 +10,4 @@ pub mod LanesQuiet
 pub mod LanesDue
 pub mod LanesSpared
 pub mod LanesEnds
+pub mod LanesOpened
