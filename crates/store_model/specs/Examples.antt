@@ -1,5 +1,6 @@
 -- Small states and histories, for the laws that say by example what the definitions come to.
-use Rattle.std.specs.Prelude.{ℕ, true, false, List, [], ◌∷◌, replicate, codes, Some, None}
+use Rattle.std.specs.Prelude.{ℕ, true, false, List, [], ◌∷◌, replicate, codes, Option, Some, None, if◌then◌else◌}
+use Rattle.std.specs.Str.{bytes_eq}
 use Rattle.abr_record.specs.declared.Record.{Record}
 use Rattle.abr_record.specs.declared.Slot.TheVariants.{B}
 use Rattle.abr_record.specs.Boot.{factory_record}
@@ -10,6 +11,7 @@ use Rattle.image_layout.specs.declared.Sys.{Sys}
 use Rattle.package_book.specs.Books.Meta.{Long}
 use Rattle.package_indexes.specs.declared.Choice.TheVariants.{Pinned}
 use Rattle.pkg_names.specs.declared.root.Root.{Root}
+use Rattle.system_lists.specs.Judging.{AtHand, static_name}
 use Rattle.store_model.specs.declared.ends.ActivateEnd.TheVariants.{Active}
 use Rattle.store_model.specs.declared.ends.BeginEnd.TheVariants.{Ticket}
 use Rattle.store_model.specs.declared.ends.Miss.{Miss}
@@ -78,6 +80,23 @@ kept_at_last a b = next_commit (seventh a b) true
 -- recovery was asked for once
 abbrev pub recovery : Sys → Sys → State
 recovery a b = booted_by (record factory_record { one_shot = 1 }) a b
+
+-- ---- judgements
+
+abbrev only_at : List ℕ → Root → List ℕ → Option Root
+only_at name root path = if bytes_eq path name then Some root else None
+
+-- Every package is there, may be counted on, is a book and names itself alone. The list of a system's
+-- packages is blob 2, and is empty.
+abbrev pub all_there : AtHand
+all_there = record {
+  len = λ root. Some 0;
+  is_kept = λ root. true;
+  is_book = λ root. true;
+  names = λ root. root ∷ [];
+  outer = λ root. only_at static_name (root_like 2);
+  bytes = λ root. Some [];
+}
 
 -- ---- one package
 

@@ -1,6 +1,6 @@
 //! What the definitions come to, by examples that are computed. Each function does nothing.
 
-ghost use Rattle.std.specs.Prelude.{◌≡◌, ℕ, ◌++◌, List, [], ◌∷◌, map, replicate, true, false, Some, None};
+ghost use Rattle.std.specs.Prelude.{◌≡◌, ℕ, ◌++◌, List, [], ◌∷◌, map, replicate, true, false, Some, None, Ok, Err};
 ghost use Rattle.abr_record.specs.declared.Slot.TheVariants as slots;
 ghost use Rattle.abr_record.specs.Boot.{boot_slot, factory_record};
 ghost use Rattle.abr_record.specs.Marks.{unbootable_slot};
@@ -11,6 +11,11 @@ ghost use Rattle.package_book.specs.Books.Meta.{Long};
 ghost use Rattle.package_book.specs.declared.fault.PackageFault.TheVariants as faults;
 ghost use Rattle.package_indexes.specs.declared.Choice.{Choice as ChoiceOf};
 ghost use Rattle.pkg_names.specs.NameAndVariant.{NameAndVariant};
+ghost use Rattle.pkg_names.specs.declared.pinned.Pinned.{Pinned as PinnedOf};
+ghost use Rattle.pkg_names.specs.declared.root.Root.{Root as RootOf};
+ghost use Rattle.system_lists.specs.Judging.{Verdict, system_path, judged, judged_lists};
+ghost use Rattle.system_lists.specs.declared.fault.SystemFault.TheVariants as system_faults;
+ghost use Rattle.system_lists.specs.declared.fault.SystemFault.{SystemFault as SystemFaultOf};
 ghost use Rattle.store_model.specs.declared.ends.BeginEnd.TheVariants as begins;
 ghost use Rattle.store_model.specs.declared.ends.Cause.TheVariants as causes;
 ghost use Rattle.store_model.specs.declared.ends.Miss.TheVariants as misses;
@@ -31,7 +36,7 @@ ghost use Rattle.store_model.specs.Acts.Close.{IsDueClose};
 ghost use Rattle.store_model.specs.Acts.Collect.{collect_answer};
 ghost use Rattle.store_model.specs.Acts.Retain.{IsDueRetain};
 ghost use Rattle.store_model.specs.Acts.Stage.{stage_answer, next_stage};
-ghost use Rattle.store_model.specs.Examples.{root_like, running_a, filling_b, updated, updated_record, seventh, eighth, kept_at_last, recovery, from_factory, wanted, fetching, failed_put, afterwards, a_long_package, both_asked, both_missed, with_space, one_open, closed_by, retained_then_closed};
+ghost use Rattle.store_model.specs.Examples.{root_like, running_a, filling_b, updated, updated_record, seventh, eighth, all_there, kept_at_last, recovery, from_factory, wanted, fetching, failed_put, afterwards, a_long_package, both_asked, both_missed, with_space, one_open, closed_by, retained_then_closed};
 
 /// Updates. To an older system there is none, while a lane has one under way there is no other, and a
 /// second one takes the slot that the first has activated. Until then what is retained stays.
@@ -73,6 +78,28 @@ pub fn examples_of_recovery()
     ensures collects { (a b : SysOf) → collect_answer (recovery a b) ≡ None }
     ensures stages { (a b : SysOf) (epoch : ℕ) → stage_answer (recovery a b) epoch ≡ stages.InRecovery }
     ensures commits { (a b : SysOf) → is_pending (recovery a b) ≡ false }
+{}
+
+/// Judgements. The first thing that is wrong counts; a system without packages is whole.
+pub fn examples_of_judgements()
+    ensures whole { (top : RootOf) → judged all_there top
+        ≡ Verdict.Whole (record { path = system_path; root = top } ∷ []) [] }
+    ensures absent { (top : RootOf) → judged (record all_there { len = λ _. None }) top ≡ Verdict.Missing top }
+    ensures uncounted { (top : RootOf) → judged (record all_there { is_kept = λ _. false; is_book = λ _. false }) top
+        ≡ Verdict.Missing top }
+    ensures no_book { (top : RootOf) → judged (record all_there { is_book = λ _. false; outer = λ _ _. None }) top
+        ≡ Verdict.Faulty system_faults.NoBook }
+    ensures no_static { (top : RootOf) → judged (record all_there { outer = λ _ _. None; bytes = λ _. None }) top
+        ≡ Verdict.Faulty system_faults.NoStatic }
+    ensures unread { (top : RootOf) → judged (record all_there { bytes = λ _. None }) top
+        ≡ Verdict.Unread (root_like 2) }
+    ensures long { (top : RootOf) → judged (record all_there { len = λ _. Some 1048577; bytes = λ _. None }) top
+        ≡ Verdict.Faulty (system_faults.LongList 1048577) }
+    ensures static_first { (top : RootOf) (one other : SystemFaultOf)
+        → judged_lists all_there top (Err one) (Err other) ≡ Verdict.Faulty one }
+    ensures base { (top : RootOf) (one : PinnedOf)
+        → judged_lists (record all_there { is_book = λ _. false }) top (Ok (one ∷ [])) (Ok [])
+        ≡ Verdict.Faulty (system_faults.BadBase one.root) }
 {}
 
 /// A write that fails while bytes are put. The claim is gone and marks nothing, the package still arrives,

@@ -18,8 +18,8 @@ pub use ends::{
 pub use events::{Act, CallName, Event, Looked, LookedAt};
 pub use examples::{
     examples_of_a_failed_write, examples_of_a_long_package, examples_of_boots,
-    examples_of_collections, examples_of_directories, examples_of_recovery, examples_of_room,
-    examples_of_updates, examples_of_waiting,
+    examples_of_collections, examples_of_directories, examples_of_judgements, examples_of_recovery,
+    examples_of_room, examples_of_updates, examples_of_waiting,
 };
 pub use laws::{each_act_keeps_the_rest, histories_go_on, limits};
 pub use replies::{
