@@ -5,16 +5,15 @@ ghost use Rattle.store_model.specs.declared.ends.ReadEnd.TheVariants.{Got};
 ghost use Rattle.script_lang.specs.Ends.{end_text, begin_text, cause_text, want_text, made_text, put_text, open_text, bytes_text, read_text, check_text, roots_text, collect_text, retain_text, stage_text, copy_text, seal_text, activate_text};
 ghost use Rattle.script_lang.specs.Text.{closed_text, committed_text, words_text, answer_text};
 
+use crate::pieces::{
+    image_name, miss_name, push_counted, push_hex, push_rooted, push_rotten, push_slotted,
+};
 use fetch_queue::FetchEnd;
 use pkg_names::{Bytes, Root, Roots};
 use std::alloc::{AllocError, Global};
 use store_model::{
     Act, ActivateEnd, BeginEnd, Cause, CheckEnd, CopyEnd, Difference, ReadEnd, RetainEnd, StageEnd,
     WantEnd,
-};
-
-use crate::pieces::{
-    image_name, miss_name, push_counted, push_hex, push_rooted, push_rotten, push_slotted,
 };
 
 pub(crate) fn push_answer(alloc: Global, out: &mut Vec<u8>, act: &Act) -> Result<(), AllocError>
@@ -254,7 +253,11 @@ fn push_stage(alloc: Global, out: &mut Vec<u8>, reply: &StageEnd) -> Result<(), 
     }
 }
 
-fn push_copy_end(alloc: Global, out: &mut Vec<u8>, reply: &Option<CopyEnd>) -> Result<(), AllocError>
+fn push_copy_end(
+    alloc: Global,
+    out: &mut Vec<u8>,
+    reply: &Option<CopyEnd>,
+) -> Result<(), AllocError>
     ensures { OnOk result (out.new.items ≡ out.old.items ++ copy_text reply.now) }
 {
     match reply {

@@ -4,13 +4,12 @@ ghost use Rattle.std.specs.Prelude.{◌≡◌, ◌++◌, OnOk, length};
 ghost use Rattle.store_model.specs.declared.events.CallName.TheVariants.{Retain, Copy, Reject};
 ghost use Rattle.script_lang.specs.Text.{name_text, call_text};
 
+use crate::pieces::{image_name, manifest_name, push_counted, push_file, push_path, push_rooted};
 use image_layout::ImageKind;
 use pkg_names::{FilePath, Roots};
 use std::alloc::{AllocError, Global};
 use store_model::{Act, CallName};
 use system_lists::ManifestFile;
-
-use crate::pieces::{image_name, manifest_name, push_counted, push_file, push_path, push_rooted};
 
 pub(crate) fn push_call(alloc: Global, out: &mut Vec<u8>, act: &Act) -> Result<(), AllocError>
     ensures { OnOk result (out.new.items ≡ out.old.items ++ call_text act.now) }
@@ -32,7 +31,10 @@ pub(crate) fn push_call(alloc: Global, out: &mut Vec<u8>, act: &Act) -> Result<(
         Act::Retain { roots, .. } => push_retain(alloc, out, roots),
         Act::Stage { epoch, .. } => push_counted(alloc, out, "stage ", *epoch),
         Act::Copy {
-            image, dir, file, ..
+            image,
+            dir,
+            file,
+            ..
         } => push_copy(alloc, out, *image, *dir, file),
         Act::Seal { .. } => out.extend_from_slice(b"seal"),
         Act::Activate { .. } => out.extend_from_slice(b"activate"),

@@ -8,6 +8,5 @@ mod pieces;
 
 pub use line::{line_of, text_of};
 
-
 #[cfg(test)]
 mod tests;

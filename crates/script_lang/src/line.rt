@@ -3,12 +3,11 @@
 ghost use Rattle.std.specs.Prelude.{◌≡◌, ◌+◌, ◌++◌, length, OnOk, IfOk};
 ghost use Rattle.script_lang.specs.Text.{outcome_text, line, text};
 
+use crate::answers::push_answer;
+use crate::calls::push_call;
 use pkg_names::Bytes;
 use std::alloc::{AllocError, Global};
 use store_model::Event;
-
-use crate::answers::push_answer;
-use crate::calls::push_call;
 
 /// The lines of a history, in order. `docs/formats.md` of the repository has them.
 pub fn text_of(alloc: Global, history: &[Event]) -> Result<Bytes, AllocError>

@@ -95,7 +95,11 @@ pub(crate) fn push_rotten(out: &mut Vec<u8>, root: &Root, got: &Root) -> Result<
 }
 
 // A word, and a package path behind it.
-pub(crate) fn push_path(out: &mut Vec<u8>, word: &[u8], path: &PackagePath) -> Result<(), AllocError>
+pub(crate) fn push_path(
+    out: &mut Vec<u8>,
+    word: &[u8],
+    path: &PackagePath,
+) -> Result<(), AllocError>
     ensures { OnOk result (out.new.items ≡ out.old.items ++ (word.now ++ path_text path.now)) }
 {
     out.extend_from_slice(word)?;
