@@ -9,6 +9,7 @@ mod events;
 mod examples;
 mod laws;
 mod replies;
+mod waiting;
 
 pub use desk::{Desk, RETAIN_LIMIT};
 pub use ends::{
@@ -27,3 +28,4 @@ pub use replies::{
     Dir, LandReply, OpenReply, PutReply, ReadReply, RejectReply, RetainReply, RoomReply, SealReply,
     StageReply, Ticket, WantReply,
 };
+pub use waiting::quiet_packages_have_no_answer;
