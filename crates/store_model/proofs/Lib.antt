@@ -11,3 +11,4 @@ pub mod LanesDue
 pub mod LanesSpared
 pub mod LanesEnds
 pub mod LanesOpened
+pub mod NoAnswer

@@ -6,9 +6,11 @@
 mod desk;
 mod ends;
 mod events;
+mod examples;
 mod lane_laws;
 mod laws;
 mod replies;
+mod waiting;
 
 pub use desk::{Desk, RETAIN_LIMIT};
 pub use ends::{
@@ -16,6 +18,11 @@ pub use ends::{
     ReadEnd, RetainEnd, StageEnd, WantEnd,
 };
 pub use events::{Act, CallName, Event, Looked, LookedAt};
+pub use examples::{
+    examples_of_a_failed_write, examples_of_a_long_package, examples_of_boots,
+    examples_of_collections, examples_of_directories, examples_of_judgements, examples_of_recovery,
+    examples_of_room, examples_of_updates, examples_of_waiting,
+};
 pub use lane_laws::{
     broken_stays, claims_are_granted_once, collections_remove_the_rest,
     collections_spare_what_is_held, lanes_leave_each_other_alone, lanes_wait_where_it_is_quiet,
@@ -27,3 +34,4 @@ pub use replies::{
     Dir, LandReply, OpenReply, PutReply, ReadReply, RejectReply, RetainReply, RoomReply, SealReply,
     StageReply, Ticket, WantReply,
 };
+pub use waiting::quiet_packages_have_no_answer;
