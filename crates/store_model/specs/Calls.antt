@@ -272,11 +272,11 @@ KeepsAtCopy s lane image dir file (copy.Whole have) old new before after =
 KeepsAtCopy s lane image dir file (copy.Broken broken) old new before after = KeepsBlob before after × (new ≡ old)
 KeepsAtCopy s lane image dir file reply old new before after = Keeps before after × (new ≡ old)
 
--- an image that one file alone has filled to its end has the file's root
+-- an image that one file alone has filled to its end stands for bytes with the file's root
 abbrev pub IsWholeFile : ImageKind → CopyReply → Fillers → (Keeping → List ℕ → Type 0) → Type 0
 IsWholeFile image (copy.Whole len) fillers after =
     (root : Root) → filler_of fillers image ≡ Some root
-    → OfKept after (Image image) (λ bytes. merkle_root bytes ≡ root)
+    → (bytes : List ℕ) × after (Image image) bytes × (merkle_root bytes ≡ root)
 IsWholeFile image reply fillers after = Unit {0}
 
 abbrev pub Seals : Sys → SealReply → View → View → Type 0

@@ -6,8 +6,11 @@
 mod desk;
 mod ends;
 mod events;
+mod examples;
+mod lane_laws;
 mod laws;
 mod replies;
+mod waiting;
 
 pub use desk::{Desk, RETAIN_LIMIT};
 pub use ends::{
@@ -15,9 +18,20 @@ pub use ends::{
     ReadEnd, RetainEnd, StageEnd, WantEnd,
 };
 pub use events::{Act, CallName, Event, Looked, LookedAt};
+pub use examples::{
+    examples_of_a_failed_write, examples_of_a_long_package, examples_of_boots,
+    examples_of_collections, examples_of_directories, examples_of_judgements, examples_of_recovery,
+    examples_of_room, examples_of_updates, examples_of_waiting,
+};
+pub use lane_laws::{
+    broken_stays, claims_are_granted_once, collections_remove_the_rest,
+    collections_spare_what_is_held, lanes_leave_each_other_alone, lanes_wait_where_it_is_quiet,
+    marks_come_from_ends, what_lasts_changes_at_few_acts, whole_packages_are_opened,
+};
 pub use laws::{each_act_keeps_the_rest, histories_go_on, limits};
 pub use replies::{
     ActivateReply, BeginReply, CheckReply, Claim, CloseReply, CollectReply, CommitReply, CopyReply,
     Dir, LandReply, OpenReply, PutReply, ReadReply, RejectReply, RetainReply, RoomReply, SealReply,
     StageReply, Ticket, WantReply,
 };
+pub use waiting::quiet_packages_have_no_answer;
