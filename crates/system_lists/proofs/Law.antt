@@ -1,16 +1,15 @@
 -- A static list is read from a text exactly where the text stands for it.
-use Rattle.std.proofs.Common.{◌≡◌, ℕ, List, [], ◌∷◌, ◌++◌, map, All, Option, Some, None, Result, Ok, Err, refl, sym, ap, subst, ◌∙◌, arith}
-use Rattle.std.specs.List.{IsDistinct}
+use Rattle.std.proofs.Common.{◌≡◌, ℕ, List, [], ◌∷◌, map, All, Option, Some, Result, Ok, Err, refl, ap, ◌∙◌}
 use Rattle.std.proofs.lemmas.List.Elements.{All-head, All-tail, All-nil, All-cons}
 use Rattle.pkg_names.specs.declared.pinned.Pinned.{Pinned}
 use Rattle.pkg_names.specs.Text.{lines_of}
 use Rattle.system_lists.specs.declared.list.ListFault.{ListFault}
 use Rattle.system_lists.specs.declared.list.ListFault.TheVariants.{Bad, Repeat, NoMemory}
-use Rattle.system_lists.specs.declared.fault.StaticFault.{StaticFault}
-use Rattle.system_lists.specs.Lists.{IsPinned, IsPinnedList, has_path_of, listed}
+use Rattle.system_lists.specs.Entries.{listed}
+use Rattle.system_lists.specs.Lists.{IsPinned, has_path_of}
 use Rattle.system_lists.specs.Static.{line_text, pinned_line, as_static, static_of, StandsFor}
-use Rattle.system_lists.proofs.Listing.{Listed, is_listed, relisted}
-use Rattle.system_lists.proofs.StaticLines.{Says, line_says, pinned_line-line_text}
+use Rattle.system_lists.proofs.Listing.{made}
+use Rattle.system_lists.proofs.StaticLines.{line_says, pinned_line-line_text}
 
 -- these lines say these packages
 record AllSay (texts : List (List ℕ)) (list : List Pinned) : Type 0 where
@@ -46,15 +45,13 @@ as_static_ok (Err (Repeat n)) list e = absurd cc
 as_static_ok (Err NoMemory) list e = absurd cc
 
 pub stands : (text : List ℕ) (list : List Pinned) → static_of text ≡ Ok list → StandsFor text list
-unfolding IsDistinct
 stands text list e =
-    let read = as_static_ok (listed [] (map pinned_line (lines_of text))) list e in
-    let is = is_listed [] (map pinned_line (lines_of text)) list (omega arith) tt read in
-    let same : list ≡ is.rest = is.whole in
-    let say = all_say (lines_of text) list (is.entries ∙ ap (map (λ (pinned : Pinned). Some pinned)) (sym same)) in
+    let read = as_static_ok (listed has_path_of [] (map pinned_line (lines_of text))) list e in
+    let is = (made has_path_of (map pinned_line (lines_of text)) list).0 read in
+    let say = all_say (lines_of text) list is.said in
     record { valid = record { few = is.few; each = say.each; distinct = is.distinct }; lines = say.lines }
 
 pub only : (text : List ℕ) (list : List Pinned) → StandsFor text list → static_of text ≡ Ok list
 only text list is =
     let entries : map pinned_line (lines_of text) ≡ map (λ (pinned : Pinned). Some pinned) list = ap (map pinned_line) is.lines ∙ all_read list is.valid.each in
-    ap as_static (ap (listed []) entries ∙ relisted [] list is.valid.few is.valid.distinct)
+    ap as_static ((made has_path_of (map pinned_line (lines_of text)) list).1 (record { said = entries; few = is.valid.few; distinct = is.valid.distinct }))

@@ -1,4 +1,5 @@
-mod Listing
+pub mod Listing
+pub mod Arrays
 mod StaticLines
 mod Law
 mod Values

@@ -1,44 +1,22 @@
--- The cached list: a JSON object of URLs.
-use Rattle.std.specs.Prelude.{◌≡◌, ℕ, ◌==◌, ◌||◌, Bool, false, List, [], ◌∷◌, codes, Option, Some, None, option_and_then, Result, Ok, Err, if◌then◌else◌}
-use Rattle.std.specs.Str.{bytes_eq, is_utf8}
-use Rattle.serde_json.specs.Data.{Data, Items, no_items, item, Members}
-use Rattle.serde_json.specs.Read as json
-use Rattle.serde_json.specs.Find.{get, as_str, as_number, as_u64, as_array, as_object}
+-- The cached list: a document of URLs.
+use Rattle.std.specs.Prelude.{ℕ, List, [], codes, Option, Some, None, option_and_then, Result, Ok, Err}
+use Rattle.serde_json.specs.Data.{Data, Items}
+use Rattle.serde_json.specs.Find.{get, as_str, as_array}
 use Rattle.pkg_names.specs.declared.root.Root.{Root}
 use Rattle.pkg_names.specs.declared.pinned.Pinned.{Pinned}
 use Rattle.pkg_names.specs.NameAndVariant.{NameAndVariant}
 use Rattle.package_url.specs.declared.url.Url.{Url}
 use Rattle.package_url.specs.declared.fault.UrlFault.{UrlFault}
 use Rattle.package_url.specs.Reading.{url_in}
+use Rattle.system_lists.specs.declared.document.DocumentFault.{DocumentFault}
 use Rattle.system_lists.specs.declared.list.ListFault.{ListFault}
 use Rattle.system_lists.specs.declared.list.ListFault.TheVariants as list
 use Rattle.system_lists.specs.declared.fault.CachedFault.{CachedFault}
-use Rattle.system_lists.specs.declared.fault.CachedFault.TheVariants.{Json, Version, Entry, NoMemory}
-use Rattle.system_lists.specs.Lists.{listed}
-
--- the value in a text, as `serde_json` reads it: of two members with one name the last counts
-abbrev pub value_in : List ℕ → Option Data
-value_in text = if is_utf8 text then json.read text else None
-
--- ---- the version
-
-abbrev pub is_text_one : Option (List ℕ) → Bool
-is_text_one None = false
-is_text_one (Some text) = bytes_eq text (codes "1")
-
-abbrev pub is_number_one : Option ℕ → Bool
-is_number_one None = false
-is_number_one (Some n) = n == 1
-
--- the string `1` or the number 1
-abbrev pub is_one : Data → Bool
-is_one value = is_text_one (as_str value) || is_number_one (option_and_then as_u64 (as_number value))
-
-abbrev pub is_version_one : Option Data → Bool
-is_version_one None = false
-is_version_one (Some value) = is_one value
-
--- ---- the entries
+use Rattle.system_lists.specs.declared.fault.CachedFault.TheVariants.{Json, Entry, NoMemory}
+use Rattle.system_lists.specs.Document.{document_in, entries}
+use Rattle.system_lists.specs.Entries.{listed}
+use Rattle.system_lists.specs.Faults.{cached_fault}
+use Rattle.system_lists.specs.Lists.{has_path_of}
 
 -- a pinned URL without a file
 abbrev pub pinned_of : NameAndVariant → Option Root → Option (List ℕ) → Option Pinned
@@ -54,12 +32,6 @@ pinned_url (Err fault) = None
 abbrev pub pinned_entry : Data → Option Pinned
 pinned_entry value = option_and_then (λ text. pinned_url (url_in text)) (as_str value)
 
-abbrev pub entries : Items → List (Option Pinned)
-entries no_items = []
-entries (item value rest) = pinned_entry value ∷ entries rest
-
--- ---- the whole
-
 abbrev pub as_cached : Result (List Pinned) ListFault → Result (List Pinned) CachedFault
 as_cached (Ok list) = Ok list
 as_cached (Err (list.Bad n)) = Err (Entry n)
@@ -69,18 +41,12 @@ as_cached (Err list.NoMemory) = Err NoMemory
 -- the packages in the array `content`
 abbrev pub content_of : Option Items → Result (List Pinned) CachedFault
 content_of None = Err Json
-content_of (Some items) = as_cached (listed [] (entries items))
+content_of (Some items) = as_cached (listed has_path_of [] (entries pinned_entry items))
 
-abbrev pub cached_object : Data → Option Members → Result (List Pinned) CachedFault
-cached_object value None = Err Json
-cached_object value (Some found) =
-    if is_version_one (get (codes "version") value)
-    then content_of (option_and_then as_array (get (codes "content") value)) else Err Version
-
-abbrev pub cached_value : Option Data → Result (List Pinned) CachedFault
-cached_value None = Err Json
-cached_value (Some value) = cached_object value (as_object value)
+abbrev pub cached_document : Result Data DocumentFault → Result (List Pinned) CachedFault
+cached_document (Ok value) = content_of (option_and_then as_array (get (codes "content") value))
+cached_document (Err fault) = Err (cached_fault fault)
 
 -- the packages in a text, or its first fault
 abbrev pub cached_of : List ℕ → Result (List Pinned) CachedFault
-cached_of text = cached_value (value_in text)
+cached_of text = cached_document (document_in text)

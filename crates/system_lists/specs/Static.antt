@@ -1,5 +1,5 @@
 -- The static list: a line a package.
-use Rattle.std.specs.Prelude.{◌≡◌, ℕ, ◌==◌, Bool, List, [], ◌∷◌, ◌++◌, map, Option, Some, None, Result, Ok, Err, if◌then◌else◌}
+use Rattle.std.specs.Prelude.{◌≡◌, ℕ, ◌==◌, List, [], ◌∷◌, ◌++◌, map, Option, Some, None, Result, Ok, Err, if◌then◌else◌}
 use Rattle.std.specs.List.{list_any}
 use Rattle.pkg_names.specs.declared.root.Root.{Root}
 use Rattle.pkg_names.specs.declared.pinned.Pinned.{Pinned}
@@ -11,7 +11,8 @@ use Rattle.system_lists.specs.declared.list.ListFault.{ListFault}
 use Rattle.system_lists.specs.declared.list.ListFault.TheVariants as list
 use Rattle.system_lists.specs.declared.fault.StaticFault.{StaticFault}
 use Rattle.system_lists.specs.declared.fault.StaticFault.TheVariants.{Line, Repeat, NoMemory}
-use Rattle.system_lists.specs.Lists.{IsPinnedList, listed}
+use Rattle.system_lists.specs.Entries.{listed}
+use Rattle.system_lists.specs.Lists.{has_path_of, IsPinnedList}
 
 -- a line: `<name>/<variant>=<root>`
 abbrev pub line_text : Pinned → List ℕ
@@ -49,4 +50,4 @@ as_static (Err list.NoMemory) = Err NoMemory
 
 -- the packages in a text, or its first fault
 abbrev pub static_of : List ℕ → Result (List Pinned) StaticFault
-static_of text = as_static (listed [] (map pinned_line (lines_of text)))
+static_of text = as_static (listed has_path_of [] (map pinned_line (lines_of text)))

@@ -1,9 +1,12 @@
-ghost use Rattle.std.specs.Prelude.{◌≡◌, ◌⊎◌, ◌<◌, [], length, codes, Some, None, Err, IfOk, IfErr, OnOk, option_and_then};
-ghost use Rattle.serde_json.specs.Find.{get, as_array, as_object, as_str, as_number, as_u64};
+ghost use Rattle.std.specs.Prelude.{◌≡◌, ◌⊎◌, ◌<◌, [], length, codes, Err, IfOk, IfErr, OnOk, option_and_then};
+ghost use Rattle.serde_json.specs.Find.{get, as_array};
 ghost use Rattle.serde_json.specs.View.{view, items_view};
-ghost use Rattle.system_lists.specs.Lists.{listed, placed, Adds};
-ghost use Rattle.system_lists.specs.Cached.{value_in, is_version_one, is_one, is_text_one, is_number_one, pinned_entry, pinned_of, entries, content_of, cached_object, cached_of};
+ghost use Rattle.system_lists.specs.Entries.{listed, placed, Adds};
+ghost use Rattle.system_lists.specs.Lists.{has_path_of};
+ghost use Rattle.system_lists.specs.Document.{entries};
+ghost use Rattle.system_lists.specs.Cached.{pinned_entry, pinned_of, content_of, cached_of};
 
+use crate::document::read_document;
 use crate::fault::CachedFault;
 use crate::list::{ENTRY_LIMIT, ListFault, PinnedList, put};
 use package_url::{Url, UrlFault, read_url};
@@ -15,76 +18,8 @@ use std::alloc::{AllocError, Global};
 pub fn read_cached(alloc: Global, bytes: &[u8]) -> Result<PinnedList, CachedFault>
     ensures exact { (result ≡ cached_of bytes.now) ⊎ (result ≡ Err CachedFault.NoMemory) }
 {
-    let value = value_of(alloc, bytes)?;
-    read_object(alloc, &value)
-}
-
-// The value in the text.
-fn value_of(alloc: Global, bytes: &[u8]) -> Result<Value, CachedFault>
-    ensures found { IfOk result (λ value. value_in bytes.now ≡ Some (view value)) }
-    ensures none { IfErr result (λ fault. (fault ≡ CachedFault.NoMemory)
-        ⊎ ((fault ≡ CachedFault.Json) × (value_in bytes.now ≡ None))) }
-{
-    let Ok(text) = str::from_utf8(bytes) else {
-        return Err(CachedFault::Json);
-    };
-    match Value::from_str(alloc, text) {
-        Ok(value) => Ok(value),
-        Err(e) => {
-            if e.is_memory() {
-                Err(CachedFault::NoMemory)
-            } else {
-                Err(CachedFault::Json)
-            }
-        }
-    }
-}
-
-fn read_object(alloc: Global, value: &Value) -> Result<PinnedList, CachedFault>
-    ensures { (result ≡ cached_object (view value.now) (as_object (view value.now)))
-        ⊎ (result ≡ Err CachedFault.NoMemory) }
-{
-    if value.as_object().is_none() {
-        return Err(CachedFault::Json);
-    }
-    if !has_version_one(value) {
-        return Err(CachedFault::Version);
-    }
-    read_content(alloc, value)
-}
-
-fn has_version_one(value: &Value) -> bool
-    ensures { result ≡ is_version_one (get (codes "version") (view value.now)) }
-{
-    match value.get("version") {
-        Some(version) => is_one(version),
-        None => false,
-    }
-}
-
-// The string `1` or the number 1.
-fn is_one(value: &Value) -> bool
-    ensures { result ≡ is_one (view value.now) }
-{
-    is_text_one(value) || is_number_one(value)
-}
-
-fn is_text_one(value: &Value) -> bool
-    ensures { result ≡ is_text_one (as_str (view value.now)) }
-{
-    match value.as_str() {
-        Some(text) => text == "1",
-        None => false,
-    }
-}
-
-fn is_number_one(value: &Value) -> bool
-    ensures { result ≡ is_number_one (option_and_then as_u64 (as_number (view value.now))) }
-{
-    match value.as_u64() {
-        Some(n) => n == 1,
-        None => false,
-    }
+    let value = read_document(alloc, bytes)?;
+    read_content(alloc, &value)
 }
 
 fn read_content(alloc: Global, value: &Value) -> Result<PinnedList, CachedFault>
@@ -106,7 +41,8 @@ fn read_content(alloc: Global, value: &Value) -> Result<PinnedList, CachedFault>
 }
 
 fn read_entries(alloc: Global, values: &[Value]) -> Result<PinnedList, ListFault>
-    ensures { (result ≡ listed [] (entries (items_view values.now))) ⊎ (result ≡ Err ListFault.NoMemory) }
+    ensures { (result ≡ listed has_path_of [] (entries pinned_entry (items_view values.now)))
+        ⊎ (result ≡ Err ListFault.NoMemory) }
 {
     let mut list = Vec::new(alloc);
     for value in values {
@@ -124,9 +60,9 @@ fn read_entries(alloc: Global, values: &[Value]) -> Result<PinnedList, ListFault
 fn put_value(alloc: Global, list: &mut Vec<Pinned>, value: &Value) -> Result<(), ListFault>
     requires { length list.old.items < ENTRY_LIMIT }
     ensures found { OnOk result
-        (Adds (placed list.old.items (pinned_entry (view value.now))) list.old.items list.new.items) }
+        (Adds (placed has_path_of list.old.items (pinned_entry (view value.now))) list.old.items list.new.items) }
     ensures fault { IfErr result (λ fault. (fault ≡ ListFault.NoMemory)
-        ⊎ (placed list.old.items (pinned_entry (view value.now)) ≡ Err fault)) }
+        ⊎ (placed has_path_of list.old.items (pinned_entry (view value.now)) ≡ Err fault)) }
 {
     let entry = pinned_in(alloc, value)?;
     put(list, entry)

@@ -2,7 +2,10 @@
 
 ghost use Rattle.std.specs.Prelude.{◌≡◌};
 ghost use Rattle.system_lists.specs.declared.fault.CachedFault.TheVariants as cached;
+ghost use Rattle.system_lists.specs.declared.fault.ManifestFault.TheVariants as manifest;
+ghost use Rattle.system_lists.specs.Faults.{cached_fault, manifest_fault};
 
+use crate::document::DocumentFault;
 use pkg_names::Root;
 use std::alloc::AllocError;
 
@@ -33,6 +36,18 @@ impl From<AllocError> for CachedFault {
 
     fn from(_e: AllocError) -> CachedFault {
         CachedFault::NoMemory
+    }
+}
+
+impl From<DocumentFault> for CachedFault {
+    ghost from_gives = { λ fault e. e ≡ cached_fault fault };
+
+    fn from(fault: DocumentFault) -> CachedFault {
+        match fault {
+            DocumentFault::Json => CachedFault::Json,
+            DocumentFault::Version => CachedFault::Version,
+            DocumentFault::NoMemory => CachedFault::NoMemory,
+        }
     }
 }
 
@@ -75,4 +90,24 @@ pub enum ManifestFault {
     /// The file has this many bytes, more than one is read of.
     TooLong { len: u64 },
     NoMemory,
+}
+
+impl From<AllocError> for ManifestFault {
+    ghost from_gives = { λ _ e. e ≡ manifest.NoMemory };
+
+    fn from(_e: AllocError) -> ManifestFault {
+        ManifestFault::NoMemory
+    }
+}
+
+impl From<DocumentFault> for ManifestFault {
+    ghost from_gives = { λ fault e. e ≡ manifest_fault fault };
+
+    fn from(fault: DocumentFault) -> ManifestFault {
+        match fault {
+            DocumentFault::Json => ManifestFault::Json,
+            DocumentFault::Version => ManifestFault::Version,
+            DocumentFault::NoMemory => ManifestFault::NoMemory,
+        }
+    }
 }

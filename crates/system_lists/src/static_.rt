@@ -1,7 +1,8 @@
 ghost use Rattle.std.specs.Prelude.{◌≡◌, ◌⊎◌, ◌<◌, [], List, ℕ, length, map, Ok, Err, IfOk, IfErr, OnOk};
 ghost use Rattle.pkg_names.specs.declared.pinned.Pinned.{Pinned as PinnedOf};
 ghost use Rattle.pkg_names.specs.Text.{lines_of};
-ghost use Rattle.system_lists.specs.Lists.{listed, placed, Adds};
+ghost use Rattle.system_lists.specs.Entries.{listed, placed, Adds};
+ghost use Rattle.system_lists.specs.Lists.{has_path_of};
 ghost use Rattle.system_lists.specs.Static.{whole_path_in, pinned_line, as_static, static_of, StandsFor};
 
 use crate::fault::StaticFault;
@@ -29,7 +30,8 @@ pub fn texts_stand_for_what_is_read()
 {}
 
 fn read_lines(alloc: Global, text: &[u8]) -> Result<PinnedList, ListFault>
-    ensures { (result ≡ listed [] (map pinned_line (lines_of text.now))) ⊎ (result ≡ Err ListFault.NoMemory) }
+    ensures { (result ≡ listed has_path_of [] (map pinned_line (lines_of text.now)))
+        ⊎ (result ≡ Err ListFault.NoMemory) }
 {
     let mut list = Vec::new(alloc);
     let mut rest = text;
@@ -53,9 +55,10 @@ fn read_lines(alloc: Global, text: &[u8]) -> Result<PinnedList, ListFault>
 // Puts the package of a line last, if it may stand there.
 fn put_line(alloc: Global, list: &mut Vec<Pinned>, line: &[u8]) -> Result<(), ListFault>
     requires { length list.old.items < ENTRY_LIMIT }
-    ensures found { OnOk result (Adds (placed list.old.items (pinned_line line.now)) list.old.items list.new.items) }
+    ensures found { OnOk result
+        (Adds (placed has_path_of list.old.items (pinned_line line.now)) list.old.items list.new.items) }
     ensures fault { IfErr result (λ fault. (fault ≡ ListFault.NoMemory)
-        ⊎ (placed list.old.items (pinned_line line.now) ≡ Err fault)) }
+        ⊎ (placed has_path_of list.old.items (pinned_line line.now) ≡ Err fault)) }
 {
     let entry = pinned_in(alloc, line)?;
     put(list, entry)

@@ -1,7 +1,7 @@
 use Rattle.std.proofs.Common.{List, ℕ, refl, inr, ap, sym, ◌∙◌}
 use Rattle.serde_json.specs.Read as json
 use Rattle.system_lists.proofs.Values.{none_in, found_in}
-use Rattle.system_lists.proofs.cached.value_of.Goals as goal
+use Rattle.system_lists.proofs.document.value_of.Goals as goal
 
 pub returns-in_default-clause-none : goal.returns-in_default-clause-none
 returns-in_default-clause-none c = inr (refl, none_in c.args.bytes.now c.in_default.ensures.cases.0)
