@@ -1,18 +1,15 @@
 -- The packages in a text, or its first fault.
-use Rattle.std.specs.Prelude.{ℕ, List, codes, Result, Ok, Err, if◌then◌else◌}
+use Rattle.std.specs.Prelude.{ℕ, List, Result, Ok, Err, if◌then◌else◌}
 use Rattle.pkg_names.specs.declared.pinned.Pinned.{Pinned}
-use Rattle.pkg_names.specs.NameAndVariant.{NameAndVariant}
 use Rattle.system_lists.specs.declared.fault.CachedFault.{CachedFault}
 use Rattle.system_lists.specs.declared.fault.CachedFault.TheVariants as cached
 use Rattle.system_lists.specs.declared.fault.ManifestFault.{ManifestFault}
 use Rattle.system_lists.specs.declared.fault.ManifestFault.TheVariants.{Json, Version, Entry, NoSystem, NoMemory}
 use Rattle.system_lists.specs.Lists.{is_among}
 use Rattle.system_lists.specs.Cached.{cached_of}
+use Rattle.system_lists.specs.Judging.{system_path}
 
--- the path of the system package, `system_image/0`
-abbrev pub system_path : NameAndVariant
-system_path = record { name = codes "system_image"; variant = codes "0" }
-
+-- the list, where it has the system package
 abbrev pub with_system : List Pinned → Result (List Pinned) ManifestFault
 with_system list = if is_among system_path list then Ok list else Err NoSystem
 

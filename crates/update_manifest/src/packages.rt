@@ -1,7 +1,8 @@
 ghost use Rattle.std.specs.Prelude.{◌≡◌, ◌⊎◌, ◌==◌, Err};
 ghost use Rattle.pkg_names.specs.NameAndVariant.{path_eq};
 ghost use Rattle.system_lists.specs.Lists.{is_among};
-ghost use Rattle.update_manifest.specs.Packages.{system_path, with_system, packages_fault, packages_in};
+ghost use Rattle.system_lists.specs.Judging.{system_path};
+ghost use Rattle.update_manifest.specs.Packages.{with_system, packages_fault, packages_in};
 
 use pkg_names::{PackagePath, Pinned};
 use std::alloc::Global;
