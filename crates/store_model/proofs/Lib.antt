@@ -1,2 +1,4 @@
 pub mod Histories
 pub mod Knowing
+pub mod HoldingLists
+pub mod HoldingParts

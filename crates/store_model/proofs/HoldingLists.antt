@@ -1,0 +1,177 @@
+-- Lists of which a part is kept, lists of elements that stand apart, and what is found in them.
+use Rattle.std.proofs.Common.{inl, inr, ◌≡◌, ◌≢◌, Bool, true, false, not, List, [], ◌∷◌, ◌++◌, map, Option, Some, None, All, refl, sym, ap, subst, ◌∙◌}
+use Rattle.std.specs.Prelude.{find, filter, IsSomeAnd}
+use Rattle.std.specs.List.{list_any}
+use Rattle.std.specs.Option.{option_map, option_to_list}
+use Rattle.std.proofs.lemmas.Bool.{cases_Bool, true≢false, or_parts}
+use Rattle.std.proofs.lemmas.List.Elements.{All-nil, All-cons, All-head, All-tail, All-weaker, All-push, All-filter, All-map, filter-append}
+use Rattle.std.proofs.lemmas.List.{append-nil}
+
+-- ---- filters
+
+pub filter_swap : {X : Type 0} (p q : X → Bool) (xs : List X) → filter p (filter q xs) ≡ filter q (filter p xs)
+filter_swap p q [] = refl
+filter_swap p q (x ∷ xs) =
+    elim (cases_Bool (p x)) [
+      | inl is ↦ elim (cases_Bool (q x)) [
+        | inl stays ↦ rw (stays, is, stays) (ap (λ ys. x ∷ ys) (filter_swap p q xs))
+        | inr goes ↦ rw (goes, is, goes) (filter_swap p q xs)
+      ]
+      | inr isnt ↦ elim (cases_Bool (q x)) [
+        | inl stays ↦ rw (stays, isnt) (filter_swap p q xs)
+        | inr goes ↦ rw (goes, isnt) (filter_swap p q xs)
+      ]
+    ]
+
+-- what is taken away passed no test of the rest
+pub filter_rest : {X : Type 0} (p q : X → Bool) (xs : List X) → All (λ x. p x ≡ true → q x ≡ true) xs → filter p (filter q xs) ≡ filter p xs
+filter_rest p q [] kept = refl
+filter_rest p q (x ∷ xs) kept =
+    let here : p x ≡ true → q x ≡ true = All-head (λ y. p y ≡ true → q y ≡ true) x xs kept in
+    let rest : filter p (filter q xs) ≡ filter p xs = filter_rest p q xs (All-tail (λ y. p y ≡ true → q y ≡ true) x xs kept) in
+    elim (cases_Bool (p x)) [
+      | inl is ↦ rw (here is, is) (ap (λ ys. x ∷ ys) rest)
+      | inr isnt ↦ elim (cases_Bool (q x)) [ inl stays ↦ rw (stays, isnt) rest | inr goes ↦ rw (goes, isnt) rest ]
+    ]
+
+pub filter_passed : {X : Type 0} (p : X → Bool) (P : X → Type 0) (xs : List X) → All (λ x. p x ≡ true → P x) xs → All P (filter p xs)
+filter_passed p P [] holds = All-nil P
+filter_passed p P (x ∷ xs) holds =
+    let here : p x ≡ true → P x = All-head (λ y. p y ≡ true → P y) x xs holds in
+    let rest : All P (filter p xs) = filter_passed p P xs (All-tail (λ y. p y ≡ true → P y) x xs holds) in
+    elim (cases_Bool (p x)) [ inl is ↦ rw is (All-cons P x (filter p xs) (here is) rest) | inr isnt ↦ rw isnt rest ]
+
+pub filter-map : {X Y : Type 0} (f : X → Y) (q : Y → Bool) (xs : List X) → filter q (map f xs) ≡ map f (filter (λ x. q (f x)) xs)
+filter-map f q [] = refl
+filter-map f q (x ∷ xs) =
+    elim (cases_Bool (q (f x))) [
+      | inl is ↦ rw is (ap (λ ys. f x ∷ ys) (filter-map f q xs))
+      | inr isnt ↦ rw isnt (filter-map f q xs)
+    ]
+
+pub filter_in : {X : Type 0} (p : X → Bool) (xs : List X) (x : X) → p x ≡ true → filter p (xs ++ x ∷ []) ≡ filter p xs ++ x ∷ []
+filter_in p xs x is = filter-append p xs (x ∷ []) ∙ rw is refl
+
+pub filter_out : {X : Type 0} (p : X → Bool) (xs : List X) (x : X) → p x ≡ false → filter p (xs ++ x ∷ []) ≡ filter p xs
+filter_out p xs x isnt = filter-append p xs (x ∷ []) ∙ rw isnt (append-nil (filter p xs))
+
+pub filter_none : {X : Type 0} (p : X → Bool) (xs : List X) → list_any p xs ≡ false → filter p xs ≡ []
+filter_none p [] none = refl
+filter_none p (x ∷ xs) none =
+    let parts = or_parts (p x) (list_any p xs) none in
+    rw parts.0 (filter_none p xs parts.1)
+
+-- ---- maps
+
+pub map_on : {X : Type 0} (g : X → X) (xs : List X) → All (λ x. g x ≡ x) xs → map g xs ≡ xs
+map_on g [] same = refl
+map_on g (x ∷ xs) same =
+    let here : g x ≡ x = All-head (λ y. g y ≡ y) x xs same in
+    let rest : map g xs ≡ xs = map_on g xs (All-tail (λ y. g y ≡ y) x xs same) in
+    ap (λ y. y ∷ map g xs) here ∙ ap (λ ys. x ∷ ys) rest
+
+pub map_same : {X Y : Type 0} (f : X → Y) (g : X → X) → ((x : X) → f (g x) ≡ f x) → (xs : List X) → map f (map g xs) ≡ map f xs
+map_same f g same [] = refl
+map_same f g same (x ∷ xs) =
+    ap (λ y. y ∷ map f (map g xs)) (same x) ∙ ap (λ ys. f x ∷ ys) (map_same f g same xs)
+
+-- a change that the test doesn't see
+pub filter_changed : {X : Type 0} (p : X → Bool) (g : X → X) → ((x : X) → p (g x) ≡ p x) → (xs : List X) → filter p (map g xs) ≡ map g (filter p xs)
+filter_changed p g same [] = refl
+filter_changed p g same (x ∷ xs) =
+    elim (cases_Bool (p x)) [
+      | inl is ↦ rw (same x, is) (ap (λ ys. g x ∷ ys) (filter_changed p g same xs))
+      | inr isnt ↦ rw (same x, isnt) (filter_changed p g same xs)
+    ]
+
+-- ---- what is found
+
+pub found_passes : {X : Type 0} (p : X → Bool) (xs : List X) (x : X) → find p xs ≡ Some x → p x ≡ true
+found_passes p [] x found = absurd (cc found)
+found_passes p (y ∷ xs) x found =
+    elim (cases_Bool (p y)) [
+      | inl holds ↦
+          let here : Some y ≡ Some x = rw holds at found in
+          let same : y ≡ x = cc here in
+          subst (λ z. p z ≡ true) same holds
+      | inr lacks ↦ found_passes p xs x (rw lacks at found)
+    ]
+
+pub find_kept : {X : Type 0} (p q : X → Bool) (xs : List X) (x : X) → find p xs ≡ Some x → q x ≡ true → find p (filter q xs) ≡ Some x
+find_kept p q [] x found stays = absurd (cc found)
+find_kept p q (y ∷ xs) x found stays =
+    elim (cases_Bool (p y)) [
+      | inl holds ↦
+          let here : Some y ≡ Some x = rw holds at found in
+          let same : y ≡ x = cc here in
+          let kept : q y ≡ true = subst (λ z. q z ≡ true) (sym same) stays in
+          rw (kept, holds) here
+      | inr lacks ↦
+          let rest : find p (filter q xs) ≡ Some x = find_kept p q xs x (rw lacks at found) stays in
+          elim (cases_Bool (q y)) [ inl kept ↦ rw (kept, lacks) rest | inr goes ↦ rw goes rest ]
+    ]
+
+pub find-map : {X Y : Type 0} (f : X → Y) (p : Y → Bool) (xs : List X) → find p (map f xs) ≡ option_map f (find (λ x. p (f x)) xs)
+find-map f p [] = refl
+find-map f p (x ∷ xs) =
+    elim (cases_Bool (p (f x))) [ inl is ↦ rw is refl | inr isnt ↦ rw isnt (find-map f p xs) ]
+
+-- a value of which it holds
+pub some_and : {X : Type 0} (o : Option X) (P : X → Type 0) → IsSomeAnd o P → (x : X) × (o ≡ Some x) × P x
+some_and None P holds = absurd holds
+some_and (Some x) P holds = (x, refl, holds)
+
+-- a list of one element at most, in which one is found
+pub found_alone : {X Y : Type 0} (f : X → Y) (p : X → Bool) (xs : List X) (o : Option Y) (x : X) → option_to_list o ≡ map f xs → find p xs ≡ Some x → xs ≡ x ∷ []
+found_alone f p [] o x few found = absurd (cc found)
+found_alone f p (y ∷ []) o x few found =
+    elim (cases_Bool (p y)) [
+      | inl holds ↦
+          let here : Some y ≡ Some x = rw holds at found in
+          let same : y ≡ x = cc here in
+          ap (λ z. z ∷ []) same
+      | inr lacks ↦ let none : None ≡ Some x = rw lacks at found in absurd (cc none)
+    ]
+found_alone f p (y ∷ z ∷ xs) None x few found = absurd (cc few)
+found_alone f p (y ∷ z ∷ xs) (Some w) x few found = absurd (cc few)
+
+-- ---- elements that stand apart
+
+abbrev pub AreApart : {X : Type 0} → (X → X → Type 0) → List X → Type 0
+AreApart R [] = Unit {0}
+AreApart R (x ∷ xs) = All (R x) xs × AreApart R xs
+
+pub apart_push : {X : Type 0} (R : X → X → Type 0) (xs : List X) (y : X) → AreApart R xs → All (λ x. R x y) xs → AreApart R (xs ++ y ∷ [])
+apart_push R [] y apart new = (All-nil (R y), tt)
+apart_push R (x ∷ xs) y apart new = (
+  All-push (R x) xs y apart.0 (All-head (λ z. R z y) x xs new),
+  apart_push R xs y apart.1 (All-tail (λ z. R z y) x xs new),
+)
+
+pub apart_filter : {X : Type 0} (R : X → X → Type 0) (p : X → Bool) (xs : List X) → AreApart R xs → AreApart R (filter p xs)
+apart_filter R p [] apart = tt
+apart_filter R p (x ∷ xs) apart =
+    let rest : AreApart R (filter p xs) = apart_filter R p xs apart.1 in
+    elim (cases_Bool (p x)) [ inl is ↦ rw is (All-filter p (R x) xs apart.0, rest) | inr isnt ↦ rw isnt rest ]
+
+pub apart_map : {X : Type 0} (R : X → X → Type 0) (g : X → X) → ((x y : X) → R x y → R (g x) (g y)) → (xs : List X) → AreApart R xs → AreApart R (map g xs)
+apart_map R g keeps [] apart = tt
+apart_map R g keeps (x ∷ xs) apart = (
+  All-map (R (g x)) g xs (All-weaker (R x) (λ y. R (g x) (g y)) (keeps x) xs apart.0),
+  apart_map R g keeps xs apart.1,
+)
+
+-- where keys stand apart, an element with the key of the one that is found is that one
+pub found_only : {X K : Type 0} (key : X → K) (k : K) (p : X → Bool) → ((x : X) → p x ≡ true → key x ≡ k) → (xs : List X) (c : X) → AreApart (λ a b. key a ≢ key b) xs → find p xs ≡ Some c → All (λ x. p x ≡ true → x ≡ c) xs
+found_only key k p has [] c apart found = All-nil (λ x. p x ≡ true → x ≡ c)
+found_only key k p has (x ∷ xs) c apart found =
+    elim (cases_Bool (p x)) [
+      | inl is ↦
+          let here : Some x ≡ Some c = rw is at found in
+          let same : x ≡ c = cc here in
+          All-cons (λ y. p y ≡ true → y ≡ c) x xs (λ _. same)
+          (All-weaker (λ y. key x ≢ key y) (λ y. p y ≡ true → y ≡ c) (λ y ne passes. absurd (ne (has x is ∙ sym (has y passes)))) xs apart.0)
+      | inr isnt ↦
+          All-cons (λ y. p y ≡ true → y ≡ c) x xs (λ passes. absurd (true≢false (sym passes ∙ isnt)))
+          (found_only key k p has xs c apart.1 (rw isnt at found))
+    ]
