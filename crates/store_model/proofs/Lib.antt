@@ -2,3 +2,4 @@ pub mod Histories
 pub mod Knowing
 pub mod HoldingLists
 pub mod HoldingParts
+pub mod HoldingOwn
