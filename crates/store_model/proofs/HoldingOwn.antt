@@ -269,13 +269,13 @@ own_begun : (s : State) (number lane : ℕ) (h : Held) (path : NameAndVariant) (
 own_begun s number lane h path choice (begins.Ticket root) seen holds = own_begin s number lane h path root holds
 own_begun s number lane h path choice reply seen holds = record { tickets = holds.tickets; claim = holds.claim; dirs = holds.dirs; stage = holds.stage }
 
-own_collect : (s : State) (lane : ℕ) (h : Held) (reply : Option (List Root)) → HoldsAsState lane h s → HoldsAsState lane h (next_collect s reply)
-own_collect s lane h None holds = holds
-own_collect s lane h (Some roots) holds = record { tickets = holds.tickets; claim = holds.claim; dirs = holds.dirs; stage = holds.stage }
+pub collected : (s : State) (lane : ℕ) (h : Held) (reply : Option (List Root)) → HoldsAsState lane h s → HoldsAsState lane h (next_collect s reply)
+collected s lane h None holds = holds
+collected s lane h (Some roots) holds = record { tickets = holds.tickets; claim = holds.claim; dirs = holds.dirs; stage = holds.stage }
 
-own_commit : (s : State) (lane : ℕ) (h : Held) (done : Bool) → HoldsAsState lane h s → HoldsAsState lane h (next_commit s done)
-own_commit s lane h true holds = record { tickets = holds.tickets; claim = holds.claim; dirs = holds.dirs; stage = holds.stage }
-own_commit s lane h false holds = holds
+pub committed : (s : State) (lane : ℕ) (h : Held) (done : Bool) → HoldsAsState lane h s → HoldsAsState lane h (next_commit s done)
+committed s lane h true holds = record { tickets = holds.tickets; claim = holds.claim; dirs = holds.dirs; stage = holds.stage }
+committed s lane h false holds = holds
 
 -- an act that is answered as its condition says
 pub own_act : (s : State) (number lane : ℕ) (h : Held) (act : Act) → HoldsAsState lane h s → IsActDue s lane act → HoldsAsState lane (held_after_act h number lane act) (next s number lane act)
@@ -296,14 +296,14 @@ own_act s number lane h (Close dir closed) holds due = record {
   dirs = ap (λ (ds : List DirEntry). without ds dir lane) holds.dirs ∙ sym (closed_own lane dir s.dirs);
   stage = holds.stage;
 }
-own_act s number lane h (Collect reply) holds due = own_collect s lane h reply holds
+own_act s number lane h (Collect reply) holds due = collected s lane h reply holds
 own_act s number lane h (Retain roots reply seen) holds due = record { tickets = holds.tickets; claim = holds.claim; dirs = holds.dirs; stage = holds.stage }
 own_act s number lane h (Stage epoch reply) holds due = own_stage s number lane h epoch reply holds
 own_act s number lane h (Copy image dir file reply) holds due = holds
 own_act s number lane h (Seal sys reply) holds due = own_seal s number lane h sys reply holds
 own_act s number lane h (Activate reply seen) holds due = own_activate s number lane h seen reply holds due
 own_act s number lane h LeftStage holds due = record { tickets = holds.tickets; claim = holds.claim; dirs = holds.dirs; stage = refl }
-own_act s number lane h (Commit done) holds due = own_commit s lane h done holds
+own_act s number lane h (Commit done) holds due = committed s lane h done holds
 own_act s number lane h (Reject file why) holds due = holds
 own_act s number lane h (Refused call broken) holds due = own_refused s lane h call holds due.handed
 

@@ -3,3 +3,4 @@ pub mod Knowing
 pub mod HoldingLists
 pub mod HoldingParts
 pub mod HoldingOwn
+pub mod HoldingOthers
