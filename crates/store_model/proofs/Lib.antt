@@ -4,3 +4,4 @@ pub mod HoldingLists
 pub mod HoldingParts
 pub mod HoldingOwn
 pub mod HoldingOthers
+pub mod HoldingOnce
