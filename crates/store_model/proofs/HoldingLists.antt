@@ -1,9 +1,9 @@
 -- Lists of which a part is kept, lists of elements that stand apart, and what is found in them.
-use Rattle.std.proofs.Common.{inl, inr, ◌≡◌, ◌≢◌, Bool, true, false, not, List, [], ◌∷◌, ◌++◌, map, Option, Some, None, All, refl, sym, ap, subst, ◌∙◌}
+use Rattle.std.proofs.Common.{inl, inr, ◌≡◌, ◌≢◌, Bool, true, false, List, [], ◌∷◌, ◌++◌, map, Option, Some, None, All, cond, refl, sym, ap, subst, ◌∙◌}
 use Rattle.std.specs.Prelude.{find, filter, IsSomeAnd}
 use Rattle.std.specs.List.{list_any}
 use Rattle.std.specs.Option.{option_map, option_to_list}
-use Rattle.std.proofs.lemmas.Bool.{cases_Bool, true≢false, or_parts}
+use Rattle.std.proofs.lemmas.Bool.{cases_Bool, true≢false, or_parts, or_from}
 use Rattle.std.proofs.lemmas.List.Elements.{All-nil, All-cons, All-head, All-tail, All-weaker, All-push, All-filter, All-map, filter-append}
 use Rattle.std.proofs.lemmas.List.{append-nil}
 
@@ -175,3 +175,68 @@ found_only key k p has (x ∷ xs) c apart found =
           All-cons (λ y. p y ≡ true → y ≡ c) x xs (λ passes. absurd (true≢false (sym passes ∙ isnt)))
           (found_only key k p has xs c apart.1 (rw isnt at found))
     ]
+
+-- ---- what is found among those that are kept
+
+-- what holds of all holds of the one that is found
+pub found_has : {X : Type 0} (P : X → Type 0) (p : X → Bool) (xs : List X) (x : X) → All P xs → find p xs ≡ Some x → P x
+found_has P p [] x all found = absurd (cc found)
+found_has P p (y ∷ xs) x all found =
+    elim (cases_Bool (p y)) [
+      | inl holds ↦
+          let here : Some y ≡ Some x = rw holds at found in
+          let same : y ≡ x = cc here in
+          subst P same (All-head P y xs all)
+      | inr lacks ↦ found_has P p xs x (All-tail P y xs all) (rw lacks at found)
+    ]
+
+-- where keys stand apart, what is found among those that are kept is found among all
+pub found_of_all : {X K : Type 0} (key : X → K) (k : K) (p q : X → Bool) → ((x : X) → p x ≡ true → key x ≡ k) → (xs : List X) (x : X) → AreApart (λ a b. key a ≢ key b) xs → find p (filter q xs) ≡ Some x → find p xs ≡ Some x
+found_of_all key k p q has [] x apart found = absurd (cc found)
+found_of_all key k p q has (y ∷ xs) x apart found =
+    elim (cases_Bool (q y)) [
+      | inl kept ↦
+          let here : cond (p y) (Some y) (find p (filter q xs)) ≡ Some x = rw kept at found in
+          elim (cases_Bool (p y)) [
+            | inl holds ↦ rw holds (rw holds at here)
+            | inr lacks ↦ rw lacks (found_of_all key k p q has xs x apart.1 (rw lacks at here))
+          ]
+      | inr gone ↦
+          let rest : find p (filter q xs) ≡ Some x = rw gone at found in
+          elim (cases_Bool (p y)) [
+            | inl holds ↦ absurd
+                (found_has (λ z. key y ≢ key z) p (filter q xs) x (All-filter q (λ z. key y ≢ key z) xs apart.0) rest
+                (has y holds ∙ sym (has x (found_passes p (filter q xs) x rest))))
+            | inr lacks ↦ rw lacks (found_of_all key k p q has xs x apart.1 rest)
+          ]
+    ]
+
+-- where all that pass are kept, the same is found
+pub find_same : {X : Type 0} (p q : X → Bool) → ((x : X) → p x ≡ true → q x ≡ true) → (xs : List X) → find p (filter q xs) ≡ find p xs
+find_same p q h [] = refl
+find_same p q h (x ∷ xs) =
+    elim (cases_Bool (p x)) [
+      | inl holds ↦ rw (h x holds, holds) refl
+      | inr lacks ↦ elim (cases_Bool (q x)) [ inl stays ↦ rw (stays, lacks) (find_same p q h xs) | inr goes ↦ rw (goes, lacks) (find_same p q h xs) ]
+    ]
+
+pub none_kept : {X : Type 0} (p : X → Bool) (xs : List X) → filter p xs ≡ [] → list_any p xs ≡ false
+none_kept p [] none = refl
+none_kept p (x ∷ xs) none =
+    elim (cases_Bool (p x)) [
+      | inl is ↦ let no : x ∷ filter p xs ≡ [] = rw is at none in absurd (cc no)
+      | inr isnt ↦ or_from (p x) (list_any p xs) isnt (none_kept p xs (rw isnt at none))
+    ]
+
+pub map_none : {X Y : Type 0} (f : X → Y) (xs : List X) → [] ≡ map f xs → xs ≡ []
+map_none f [] same = refl
+map_none f (x ∷ xs) same = absurd (cc same)
+
+pub map_one : {X Y : Type 0} (f : X → Y) (xs : List X) (y : Y) → y ∷ [] ≡ map f xs → (x : X) × (xs ≡ x ∷ []) × (y ≡ f x)
+map_one f [] y same = absurd (cc same)
+map_one f (x ∷ []) y same = let value : y ≡ f x = cc same in (x, refl, value)
+map_one f (x ∷ z ∷ xs) y same = absurd (cc same)
+
+pub mapped : {X Y : Type 0} (f : X → Y) (o : Option X) (y : Y) → option_map f o ≡ Some y → (x : X) × (o ≡ Some x) × (f x ≡ y)
+mapped f None y same = absurd (cc same)
+mapped f (Some x) y same = let value : f x ≡ y = cc same in (x, refl, value)

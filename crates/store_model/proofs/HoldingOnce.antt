@@ -1,17 +1,11 @@
 -- Tickets and claimed roots stand once in the state after each event that is due.
-use Rattle.std.proofs.Common.{◌≡◌, ◌≢◌, ◌<◌, ◌+◌, ℕ, Bool, true, false, cond, not, ◌||◌, List, [], ◌∷◌, ◌++◌, map, All, Option, Some, None, refl, sym, ap, subst, ◌∙◌, arith}
-use Rattle.std.specs.Prelude.{IsSomeAnd}
-use Rattle.abr_record.specs.declared.Slot.{Slot}
-use Rattle.abr_record.specs.declared.Slot.TheVariants.{A, B, R}
+use Rattle.std.proofs.Common.{◌≡◌, ◌≢◌, ◌<◌, ◌+◌, ℕ, Bool, true, false, cond, not, List, [], ◌∷◌, ◌++◌, map, All, Option, Some, None, refl, sym, subst, ◌∙◌, arith}
 use Rattle.image_layout.specs.declared.Sys.{Sys}
-use Rattle.package_indexes.specs.declared.Choice.{Choice}
 use Rattle.pkg_names.specs.NameAndVariant.{NameAndVariant}
 use Rattle.pkg_names.specs.declared.root.Root.{Root}
 use Rattle.fetch_queue.specs.declared.FetchEnd.{FetchEnd}
 use Rattle.fetch_queue.specs.declared.FetchEnd.TheVariants as ends
 use Rattle.fetch_queue.specs.declared.queue.ClaimEntry.{ClaimEntry}
-use Rattle.open_tracker.specs.declared.dirs.DirEntry.{DirEntry}
-use Rattle.open_tracker.specs.Directories.{without}
 use Rattle.store_model.specs.declared.events.Event.{Event}
 use Rattle.store_model.specs.declared.events.Act.{Act}
 use Rattle.store_model.specs.declared.events.Act.TheVariants.{Boot, Begin, Want, Room, Put, Land, Missed, GaveUp, OpenPath, Read, Check, Close, Collect, Retain, Stage, Copy, Seal, Activate, LeftStage, Commit, Reject, Refused}
@@ -29,31 +23,28 @@ use Rattle.store_model.specs.declared.ends.ActivateEnd.TheVariants as activation
 use Rattle.store_model.specs.declared.ends.Miss.{Miss}
 use Rattle.store_model.specs.declared.ends.Miss.TheVariants as misses
 use Rattle.store_model.specs.declared.ends.Difference.{Difference}
-use Rattle.store_model.specs.State.{State, Arrival, Phase, Stage as StageOf, claim_of, arrival_of, IsStageOf, with_sys, has_root, without_ticket}
+use Rattle.store_model.specs.State.{State, Arrival, arrival_of, has_root, without_ticket}
 use Rattle.store_model.specs.Packages.{known_fault, is_complete}
-use Rattle.store_model.specs.State.Phase.{Filling, Sealed, Done}
-use Rattle.store_model.specs.Systems.{base_of, staged_verdict}
-use Rattle.abr_record.specs.Marks.{active_record}
-use Rattle.store_model.specs.Settling.{settle}
+use Rattle.store_model.specs.State.Phase.{Filling}
 use Rattle.store_model.specs.Acts.Marking.{marked, ended, unclaimed}
 use Rattle.store_model.specs.Acts.Begin.{next_begin}
 use Rattle.store_model.specs.Acts.Want.{is_free, first_free, answer_for, IsAnswered, IsDueWant, next_want}
-use Rattle.store_model.specs.Acts.Room.{IsRoomless, IsDueRoom, next_room}
-use Rattle.store_model.specs.Acts.Put.{IsRoomOf, IsDuePut, next_put}
-use Rattle.store_model.specs.Acts.Land.{IsDueLand, next_land}
-use Rattle.store_model.specs.Acts.Missed.{IsClaimOf, next_missed}
+use Rattle.store_model.specs.Acts.Room.{next_room}
+use Rattle.store_model.specs.Acts.Put.{next_put}
+use Rattle.store_model.specs.Acts.Land.{next_land}
+use Rattle.store_model.specs.Acts.Missed.{next_missed}
 use Rattle.store_model.specs.Acts.GaveUp.{next_gave_up}
 use Rattle.store_model.specs.Acts.OpenPath.{next_open_path}
 use Rattle.store_model.specs.Acts.Stage.{abr_after_stage, next_stage, staging}
-use Rattle.store_model.specs.Acts.Seal.{IsDueSeal, next_seal}
+use Rattle.store_model.specs.Acts.Seal.{next_seal}
 use Rattle.store_model.specs.Acts.Activate.{IsDueActivate, activated, next_activate}
 use Rattle.store_model.specs.Acts.Commit.{next_commit}
 use Rattle.store_model.specs.Acts.Collect.{next_collect}
-use Rattle.store_model.specs.Acts.Refused.{IsHandedOf, next_refused}
-use Rattle.store_model.specs.Step.{next, IsActDue, next_broken, MayWrite, IsActDueIf, next_of, seen_by, step, IsDue}
-use Rattle.std.specs.Prelude.{◌==◌, nat_lt, find, filter}
+use Rattle.store_model.specs.Acts.Refused.{next_refused}
+use Rattle.store_model.specs.Step.{next, IsActDue, next_broken, IsActDueIf, step, IsDue}
+use Rattle.std.specs.Prelude.{◌==◌}
 use Rattle.std.specs.List.{list_any}
-use Rattle.std.proofs.lemmas.Bool.{cases_Bool, not-true, or_parts, true≢false}
+use Rattle.std.proofs.lemmas.Bool.{not-true, or_parts, true≢false}
 use Rattle.std.proofs.lemmas.List.Elements.{All-nil, All-cons, All-weaker, All-push, All-filter, All-map}
 use Rattle.pkg_names.specs.Root.{root_eq}
 use Rattle.pkg_names.proofs.Roots.{root_eq-same}
@@ -61,9 +52,9 @@ use Rattle.package_book.specs.Books.{Books}
 use Rattle.package_book.specs.declared.fault.PackageFault.{PackageFault}
 use Rattle.package_book.specs.Names.{names}
 use Rattle.fetch_queue.specs.Fetches.{is_claimed, roomed, with_room, without_claim, first_mark}
-use Rattle.store_model.proofs.HoldingLists.{some_and, found_passes, AreApart, apart_push, apart_filter, apart_map}
+use Rattle.store_model.proofs.HoldingLists.{some_and, found_passes, apart_push, apart_filter, apart_map}
 use Rattle.store_model.proofs.HoldingParts.{cond_other, TicketsApart, RootsApart}
-use Rattle.store_model.proofs.HoldingOwn.{SameHoldings, settled_same, with_sys_same, activated_is, activated_same}
+use Rattle.store_model.proofs.HoldingOwn.{SameHoldings, with_sys_same, activated_is, activated_same}
 use Rattle.store_model.proofs.HoldingOthers.{StandOnce}
 
 -- ---- tickets

@@ -1,19 +1,16 @@
 -- Another lane's act leaves what a lane holds. Tickets and claimed roots stand once in the state, and each
 -- is its lane's alone.
-use Rattle.std.proofs.Common.{◌≡◌, ◌≢◌, ◌<◌, ◌+◌, ℕ, Bool, true, false, cond, not, ◌||◌, List, [], ◌∷◌, ◌++◌, map, All, Option, Some, None, inl, inr, ◌⊎◌, refl, sym, ap, subst, ◌∙◌}
+use Rattle.std.proofs.Common.{◌≡◌, ◌≢◌, ℕ, Bool, true, false, cond, List, Option, Some, None, inl, inr, ◌⊎◌, refl, sym, ap, subst, ◌∙◌}
 use Rattle.std.specs.Prelude.{IsSomeAnd}
 use Rattle.std.proofs.lemmas.Bool.{cases_Bool}
 use Rattle.abr_record.specs.declared.Slot.{Slot}
-use Rattle.abr_record.specs.declared.Slot.TheVariants.{A, B, R}
 use Rattle.image_layout.specs.declared.Sys.{Sys}
-use Rattle.package_indexes.specs.declared.Choice.{Choice}
 use Rattle.pkg_names.specs.NameAndVariant.{NameAndVariant}
 use Rattle.pkg_names.specs.declared.root.Root.{Root}
 use Rattle.fetch_queue.specs.declared.FetchEnd.{FetchEnd}
 use Rattle.fetch_queue.specs.declared.FetchEnd.TheVariants as ends
 use Rattle.fetch_queue.specs.declared.queue.ClaimEntry.{ClaimEntry}
 use Rattle.open_tracker.specs.declared.dirs.DirEntry.{DirEntry}
-use Rattle.open_tracker.specs.Directories.{without}
 use Rattle.store_model.specs.declared.events.Event.{Event}
 use Rattle.store_model.specs.declared.events.Act.{Act}
 use Rattle.store_model.specs.declared.events.Act.TheVariants.{Boot, Begin, Want, Room, Put, Land, Missed, GaveUp, OpenPath, Read, Check, Close, Collect, Retain, Stage, Copy, Seal, Activate, LeftStage, Commit, Reject, Refused}
@@ -31,16 +28,13 @@ use Rattle.store_model.specs.declared.ends.ActivateEnd.TheVariants as activation
 use Rattle.store_model.specs.declared.ends.Miss.{Miss}
 use Rattle.store_model.specs.declared.ends.Miss.TheVariants as misses
 use Rattle.store_model.specs.declared.ends.Difference.{Difference}
-use Rattle.store_model.specs.State.{State, Arrival, Phase, Stage as StageOf, claim_of, arrival_of, IsStageOf, with_sys, is_recovery}
+use Rattle.store_model.specs.State.{State, Arrival, Phase, Stage as StageOf, arrival_of, IsStageOf, is_recovery}
 use Rattle.store_model.specs.State.Phase.{Filling, Sealed, Done}
-use Rattle.store_model.specs.Systems.{base_of, staged_verdict}
-use Rattle.abr_record.specs.Marks.{active_record}
-use Rattle.store_model.specs.Settling.{settle}
 use Rattle.store_model.specs.Acts.Marking.{ended, unclaimed}
 use Rattle.store_model.specs.Acts.Begin.{next_begin}
 use Rattle.store_model.specs.Acts.Want.{IsAnswered, IsDueWant, next_want, with_directory}
-use Rattle.store_model.specs.Acts.Room.{IsRoomless, IsDueRoom, next_room}
-use Rattle.store_model.specs.Acts.Put.{IsRoomOf, IsDuePut, next_put}
+use Rattle.store_model.specs.Acts.Room.{IsDueRoom, next_room}
+use Rattle.store_model.specs.Acts.Put.{IsDuePut, next_put}
 use Rattle.store_model.specs.Acts.Land.{IsDueLand, next_land}
 use Rattle.store_model.specs.Acts.Missed.{IsClaimOf, next_missed}
 use Rattle.store_model.specs.Acts.GaveUp.{IsTicketOf, next_gave_up}
@@ -48,15 +42,13 @@ use Rattle.store_model.specs.Acts.OpenPath.{next_open_path}
 use Rattle.store_model.specs.Acts.Stage.{IsDueStage, stage_answer, abr_after_stage, next_stage, staging}
 use Rattle.store_model.specs.Acts.Seal.{IsDueSeal, next_seal}
 use Rattle.store_model.specs.Acts.Activate.{IsDueActivate, activated, next_activate}
-use Rattle.store_model.specs.Acts.Commit.{next_commit}
-use Rattle.store_model.specs.Acts.Collect.{next_collect}
 use Rattle.store_model.specs.Acts.Refused.{IsHandedOf, next_refused}
 use Rattle.store_model.specs.Step.{next, IsActDue, next_broken, MayWrite, IsActDueIf, next_of, seen_by, step, IsDue}
-use Rattle.store_model.specs.Held.{HoldsAsState, ticket_in, claim_in, tickets_of, claims_of, dirs_of, phase_of}
+use Rattle.store_model.specs.Held.{HoldsAsState, tickets_of, claims_of, dirs_of, phase_of}
 use Rattle.store_model.specs.Holding.{Held}
 use Rattle.store_model.proofs.HoldingLists.{some_and}
 use Rattle.store_model.proofs.HoldingParts.{TicketsApart, RootsApart, begun_other, dropped_other, marked_tickets, claimed_other, unclaimed_other, roomed_other, opened_other, closed_other, staged_other}
-use Rattle.store_model.proofs.HoldingOwn.{SameHoldings, some_weaker, collected, committed, carried, settled_same, with_sys_same, roomless_claim, room_claim, put_claim, activated_is, activated_same}
+use Rattle.store_model.proofs.HoldingOwn.{some_weaker, collected, committed, carried, settled_same, with_sys_same, roomless_claim, room_claim, put_claim, activated_is, activated_same}
 
 -- tickets and claimed roots stand once
 pub record StandOnce (s : State) : Type 0 where

@@ -44,14 +44,14 @@ use Rattle.store_model.specs.Acts.Missed.{IsClaimOf, next_missed}
 use Rattle.store_model.specs.Acts.GaveUp.{next_gave_up}
 use Rattle.store_model.specs.Acts.OpenPath.{next_open_path}
 use Rattle.store_model.specs.Acts.Stage.{abr_after_stage, next_stage, staging}
-use Rattle.store_model.specs.Acts.Seal.{IsDueSeal, next_seal}
+use Rattle.store_model.specs.Acts.Seal.{next_seal}
 use Rattle.store_model.specs.Acts.Activate.{IsDueActivate, activated, next_activate}
 use Rattle.store_model.specs.Acts.Commit.{next_commit}
 use Rattle.store_model.specs.Acts.Collect.{next_collect}
 use Rattle.store_model.specs.Acts.Refused.{IsHandedOf, next_refused}
 use Rattle.store_model.specs.Step.{next, IsActDue, next_broken, MayWrite, IsActDueIf, next_of, seen_by, step, IsDue}
-use Rattle.store_model.specs.Holding.{HeldTicket, HeldClaim, Held, without_number, ticket_with, dir_of, with_len, held_after_call, held_after_act, held_after_break, held_after_event}
-use Rattle.store_model.specs.Held.{HoldsAsState, ticket_in, claim_in, tickets_of, claims_of, dirs_of, phase_of}
+use Rattle.store_model.specs.Holding.{HeldTicket, Held, without_number, ticket_with, dir_of, held_after_call, held_after_act, held_after_break, held_after_event}
+use Rattle.store_model.specs.Held.{HoldsAsState, ticket_in, tickets_of, claims_of, dirs_of, phase_of}
 use Rattle.store_model.proofs.HoldingLists.{some_and}
 use Rattle.store_model.proofs.HoldingParts.{begun_own, dropped_own, ticket_found, marked_tickets, claimed_own, unclaimed_own, roomed_own, opened_own, closed_own, staged_own}
 
@@ -152,7 +152,7 @@ own_opened s number lane h ticket holds due =
     let answered = some_and (arrival_of s.arriving ticket) (IsAnswered s lane wants.Opened) due in
     let d : DirEntry = record { number = number; lane = lane; root = answered.0.root } in
     let found : ticket_with h.tickets ticket ≡ Some (ticket_in answered.0) =
-        ap (λ (ts : List HeldTicket). ticket_with ts ticket) holds.tickets ∙ ticket_found lane ticket s.arriving answered.0 answered.1 answered.2.lane in
+    ap (λ (ts : List HeldTicket). ticket_with ts ticket) holds.tickets ∙ ticket_found lane ticket s.arriving answered.0 answered.1 answered.2.lane in
     record {
       tickets = ap (λ (ts : List HeldTicket). without_number ts ticket) holds.tickets ∙ sym (dropped_own lane ticket s.arriving);
       claim = holds.claim;

@@ -1,7 +1,7 @@
 -- What a change of the tickets, the claims, the directories or the stage makes of a lane's part of them:
 -- of the lane that changes them, and of another.
 use Rattle.std.proofs.Common.{◌≡◌, ◌≢◌, ℕ, Bool, true, false, not, List, [], ◌∷◌, ◌++◌, map, Option, Some, None, All, cond, refl, sym, ap, ◌∙◌}
-use Rattle.std.specs.Prelude.{◌==◌, find, filter, IsSomeAnd}
+use Rattle.std.specs.Prelude.{◌==◌, filter, IsSomeAnd}
 use Rattle.std.specs.Option.{option_map, option_to_list}
 use Rattle.std.proofs.lemmas.Bool.{eqb-true, eq-eqb, ne_eqb, and_right, not_from_true, not_from_false, false_from_ne_true}
 use Rattle.std.proofs.lemmas.List.{map-append}
@@ -16,7 +16,7 @@ use Rattle.fetch_queue.specs.declared.queue.ClaimEntry.{ClaimEntry}
 use Rattle.fetch_queue.specs.Fetches.{roomed, with_room, without_claim, first_mark}
 use Rattle.open_tracker.specs.declared.dirs.DirEntry.{DirEntry}
 use Rattle.open_tracker.specs.Directories.{is_of, without}
-use Rattle.store_model.specs.State.{Arrival, Phase, Stage, has_root, claim_of, holds_claim, arrival_of, without_ticket}
+use Rattle.store_model.specs.State.{Arrival, Stage, has_root, claim_of, holds_claim, arrival_of, without_ticket}
 use Rattle.store_model.specs.Acts.Marking.{marked}
 use Rattle.store_model.specs.Holding.{HeldTicket, HeldClaim, without_number, ticket_with, with_len}
 use Rattle.store_model.specs.Held.{ticket_in, claim_in, tickets_of, claims_of, dirs_of, phase_of}
@@ -39,10 +39,10 @@ same_lane by lane same = eq-eqb by lane same
 abbrev pub TicketsApart : List Arrival → Type 0
 TicketsApart arriving = AreApart (λ (a b : Arrival). a.ticket ≢ b.ticket) arriving
 
-abbrev has_lane : ℕ → Arrival → Bool
+abbrev pub has_lane : ℕ → Arrival → Bool
 has_lane lane arrival = arrival.lane == lane
 
-abbrev has_number : ℕ → Arrival → Bool
+abbrev pub has_number : ℕ → Arrival → Bool
 has_number number arrival = arrival.ticket == number
 
 pub begun_own : (lane : ℕ) (arriving : List Arrival) (a : Arrival) → a.lane ≡ lane → tickets_of lane (arriving ++ a ∷ []) ≡ tickets_of lane arriving ++ ticket_in a ∷ []
@@ -63,7 +63,7 @@ pub dropped_other : (lane by number : ℕ) (arriving : List Arrival) → Tickets
 dropped_other lane by number arriving apart handed other =
     let found = some_and (arrival_of arriving number) (λ (a : Arrival). a.lane ≡ by) handed in
     let only : All (λ (x : Arrival). has_number number x ≡ true → x ≡ found.0) arriving =
-        found_only (λ (a : Arrival). a.ticket) number (has_number number) (λ a is. eqb-true a.ticket number is) arriving found.0 apart found.1 in
+    found_only (λ (a : Arrival). a.ticket) number (has_number number) (λ a is. eqb-true a.ticket number is) arriving found.0 apart found.1 in
     ap (map ticket_in)
     (filter_rest (has_lane lane) (λ (a : Arrival). not (has_number number a)) arriving
     (All-weaker (λ (x : Arrival). has_number number x ≡ true → x ≡ found.0)
@@ -92,10 +92,10 @@ marked_tickets lane books root end arriving =
 abbrev pub RootsApart : List ClaimEntry → Type 0
 RootsApart claims = AreApart (λ (a b : ClaimEntry). a.root ≢ b.root) claims
 
-abbrev is_lanes : ℕ → ClaimEntry → Bool
+abbrev pub is_lanes : ℕ → ClaimEntry → Bool
 is_lanes lane claim = claim.lane == lane
 
-abbrev is_for : Root → ClaimEntry → Bool
+abbrev pub is_for : Root → ClaimEntry → Bool
 is_for root claim = root_eq claim.root root
 
 pub claimed_own : (lane : ℕ) (claims : List ClaimEntry) (c : ClaimEntry) → c.lane ≡ lane → holds_claim claims lane ≡ false → claims_of lane (claims ++ c ∷ []) ≡ claim_in c ∷ []
@@ -119,7 +119,7 @@ not_others : (lane by : ℕ) (claims : List ClaimEntry) (root : Root) → RootsA
 not_others lane by claims root apart handed other =
     let found = some_and (claim_of claims root) (λ (c : ClaimEntry). c.lane ≡ by) handed in
     let only : All (λ (x : ClaimEntry). is_for root x ≡ true → x ≡ found.0) claims =
-        found_only (λ (c : ClaimEntry). c.root) root (is_for root) (λ c is. root_eq-true c.root root is) claims found.0 apart found.1 in
+    found_only (λ (c : ClaimEntry). c.root) root (is_for root) (λ c is. root_eq-true c.root root is) claims found.0 apart found.1 in
     All-weaker (λ (x : ClaimEntry). is_for root x ≡ true → x ≡ found.0)
     (λ (x : ClaimEntry). is_lanes lane x ≡ true → is_for root x ≡ false)
     (λ x is own. false_from_ne_true _ (λ same. other (sym found.2 ∙ sym (ap (λ (c : ClaimEntry). c.lane) (is same)) ∙ eqb-true x.lane lane own)))
@@ -130,7 +130,7 @@ pub unclaimed_own : (lane : ℕ) (claims : List ClaimEntry) (root : Root) (o : O
 unclaimed_own lane claims root o few handed =
     let found = some_and (claim_of claims root) (λ (c : ClaimEntry). c.lane ≡ lane) handed in
     let gone : filter (λ (c : ClaimEntry). not (is_for root c)) (found.0 ∷ []) ≡ [] =
-        ap (λ (test : Bool). cond test (found.0 ∷ []) []) (not_from_true _ (found_passes (is_for root) claims found.0 found.1)) in
+    ap (λ (test : Bool). cond test (found.0 ∷ []) []) (not_from_true _ (found_passes (is_for root) claims found.0 found.1)) in
     ap (map claim_in)
     (filter_swap (is_lanes lane) (λ (c : ClaimEntry). not (is_for root c)) claims ∙ ap (filter (λ (c : ClaimEntry). not (is_for root c))) (alone lane claims root o found.0 few found.1 found.2) ∙ gone)
 
@@ -159,7 +159,7 @@ roomed_own lane claims root len o few handed =
     let found = some_and (claim_of claims root) (λ (c : ClaimEntry). c.lane ≡ lane) handed in
     let one : filter (is_lanes lane) claims ≡ found.0 ∷ [] = alone lane claims root o found.0 few found.1 found.2 in
     let room : claim_in (roomed root len found.0) ≡ with_len len (claim_in found.0) =
-        ap (λ (test : Bool). claim_in (cond test (record found.0 { len = Some len }) found.0)) (found_passes (is_for root) claims found.0 found.1) in
+    ap (λ (test : Bool). claim_in (cond test (record found.0 { len = Some len }) found.0)) (found_passes (is_for root) claims found.0 found.1) in
     to_list_map len o ∙ ap (map (with_len len)) (few ∙ ap (map claim_in) one) ∙ ap (λ (claim : HeldClaim). claim ∷ []) (sym room) ∙ sym
     (ap (map claim_in) (roomed_lane lane claims root len ∙ ap (map (roomed root len)) one))
 
@@ -167,7 +167,7 @@ pub roomed_other : (lane by : ℕ) (claims : List ClaimEntry) (root : Root) (len
     → claims_of lane (with_room claims root len) ≡ claims_of lane claims
 roomed_other lane by claims root len apart handed other =
     let others : All (λ (c : ClaimEntry). is_for root c ≡ false) (filter (is_lanes lane) claims) =
-        filter_passed (is_lanes lane) (λ (c : ClaimEntry). is_for root c ≡ false) claims (not_others lane by claims root apart handed other) in
+    filter_passed (is_lanes lane) (λ (c : ClaimEntry). is_for root c ≡ false) claims (not_others lane by claims root apart handed other) in
     ap (map claim_in)
     (roomed_lane lane claims root len ∙ map_on (roomed root len) (filter (is_lanes lane) claims)
     (All-weaker (λ (c : ClaimEntry). is_for root c ≡ false) (λ (c : ClaimEntry). roomed root len c ≡ c)
@@ -175,7 +175,7 @@ roomed_other lane by claims root len apart handed other =
 
 -- ---- directories and the stage
 
-abbrev is_open_for : ℕ → DirEntry → Bool
+abbrev pub is_open_for : ℕ → DirEntry → Bool
 is_open_for lane dir = dir.lane == lane
 
 pub opened_own : (lane : ℕ) (dirs : List DirEntry) (d : DirEntry) → d.lane ≡ lane → dirs_of lane (dirs ++ d ∷ []) ≡ dirs_of lane dirs ++ d ∷ []

@@ -5,3 +5,5 @@ pub mod HoldingParts
 pub mod HoldingOwn
 pub mod HoldingOthers
 pub mod HoldingOnce
+pub mod Holding
+pub mod HoldingThere
