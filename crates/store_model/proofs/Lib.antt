@@ -7,3 +7,4 @@ pub mod HoldingOthers
 pub mod HoldingOnce
 pub mod Holding
 pub mod HoldingThere
+pub mod Calls
