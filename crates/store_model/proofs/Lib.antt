@@ -8,5 +8,5 @@ pub mod HoldingOnce
 pub mod Holding
 pub mod HoldingThere
 pub mod Calls
-
 pub mod Views
+pub mod CallsHeld

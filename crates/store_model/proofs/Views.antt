@@ -27,7 +27,7 @@ of_lane_from-push lane number [] e own =
     rw (eq-eqb e.lane lane own) (ap (λ (n : ℕ). as_numbered n e ∷ []) (omega arith))
 of_lane_from-push lane number (x ∷ history) e own =
     let rest : of_lane_from lane (number + 1) (history ++ e ∷ []) ≡ of_lane_from lane (number + 1) history ++ as_numbered (length (x ∷ history) + number) e ∷ [] =
-        of_lane_from-push lane (number + 1) history e own ∙ ap (λ (n : ℕ). of_lane_from lane (number + 1) history ++ as_numbered n e ∷ []) (omega arith) in
+    of_lane_from-push lane (number + 1) history e own ∙ ap (λ (n : ℕ). of_lane_from lane (number + 1) history ++ as_numbered n e ∷ []) (omega arith) in
     elim (cases_Bool (x.lane == lane)) [
       | inl is ↦ rw is (ap (λ (es : List Numbered). as_numbered number x ∷ es) rest)
       | inr isnt ↦ rw isnt rest
@@ -59,7 +59,7 @@ of_lane-others lane history others none = of_lane_from-others lane 1 history oth
 pub mine_before-Does : (old new : View) (IsIts : ℕ → Event → Type 0) (does : Does old new IsIts) → old.mine ≡ of_lane old.lane (old.seen ++ does.others)
 mine_before-Does old new IsIts does =
     let lanes : of_lane new.lane new.seen ≡ of_lane old.lane (old.seen ++ does.others) ++ record { number = length (old.seen ++ does.others) + 1; event = does.event } ∷ [] =
-        ap (λ (l : ℕ). of_lane l new.seen) does.stays.lane ∙ ap (of_lane old.lane) does.seen ∙ of_lane-push old.lane (old.seen ++ does.others) does.event does.lane in
+    ap (λ (l : ℕ). of_lane l new.seen) does.stays.lane ∙ ap (of_lane old.lane) does.seen ∙ of_lane-push old.lane (old.seen ++ does.others) does.event does.lane in
     (same_from_push old.mine (of_lane old.lane (old.seen ++ does.others)) _ _ (sym does.mine ∙ does.own ∙ lanes)).0
 
 pub legal_before-Does : (old new : View) (IsIts : ℕ → Event → Type 0) (does : Does old new IsIts) → IsLegal old.origin (old.seen ++ does.others)

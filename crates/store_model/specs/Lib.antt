@@ -13,3 +13,4 @@ pub mod Replies
 pub mod Desk
 pub mod Calls
 pub mod Held
+pub mod HeldAfter
