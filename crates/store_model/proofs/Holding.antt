@@ -22,8 +22,8 @@ begin_holds lane g (Lasted d) = record { tickets = refl; claim = refl; dirs = re
 begin_holds lane g Factory = record { tickets = refl; claim = refl; dirs = refl; stage = refl }
 
 begin_apart : (next : ℕ) (g : Geometry) (b : Beginning) → HandlesApart next (start (record { geometry = g; beginning = b }))
-begin_apart next g (Lasted d) = record { tickets = record { apart = tt; below = All-nil _ }; roots = tt }
-begin_apart next g Factory = record { tickets = record { apart = tt; below = All-nil _ }; roots = tt }
+begin_apart next g (Lasted d) = record { tickets = record { apart = tt; below = All-nil _ }; roots = tt; dirs = record { apart = tt; below = All-nil _ } }
+begin_apart next g Factory = record { tickets = record { apart = tt; below = All-nil _ }; roots = tt; dirs = record { apart = tt; below = All-nil _ } }
 
 -- ---- from any state on
 
