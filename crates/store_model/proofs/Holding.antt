@@ -1,16 +1,20 @@
 -- What a lane holds by its own events is what the state says.
-use Rattle.std.proofs.Common.{inl, inr, ◌≡◌, ◌+◌, ℕ, List, [], ◌∷◌, length, refl, sym, subst, arith}
+use Rattle.std.proofs.Common.{inl, inr, ◌≡◌, ◌≢◌, ◌+◌, ℕ, List, [], ◌∷◌, length, refl, sym, subst, arith}
 use Rattle.std.specs.Prelude.{◌==◌}
 use Rattle.std.proofs.lemmas.Bool.{cases_Bool, eqb-true, eqb-false}
 use Rattle.std.proofs.lemmas.List.Elements.{All-nil}
 use Rattle.image_layout.specs.declared.geometry.Geometry.{Geometry}
+use Rattle.fetch_queue.specs.declared.queue.ClaimEntry.{ClaimEntry}
+use Rattle.open_tracker.specs.declared.dirs.DirEntry.{DirEntry}
 use Rattle.store_model.specs.declared.events.Event.{Event}
-use Rattle.store_model.specs.State.{State}
+use Rattle.store_model.specs.State.{State, Arrival}
 use Rattle.store_model.specs.Step.{IsDue, step}
 use Rattle.store_model.specs.History.{Beginning, Origin, start, IsLegalFrom, IsLegal, after_from, after, of_lane_from, of_lane}
 use Rattle.store_model.specs.History.Beginning.{Lasted, Factory}
 use Rattle.store_model.specs.Holding.{Held, nothing_held, held_after_event, held_from, held}
 use Rattle.store_model.specs.Held.{HoldsAsState}
+use Rattle.store_model.specs.Once.{StandsOnce}
+use Rattle.store_model.proofs.HoldingLists.{all_apart}
 use Rattle.store_model.proofs.HoldingOwn.{own_event}
 use Rattle.store_model.proofs.HoldingOthers.{other_event}
 use Rattle.store_model.proofs.HoldingOnce.{HandlesApart, stand_once, kept_event}
@@ -63,3 +67,14 @@ pub handles_apart : (origin : Origin) (history : List Event) → IsLegal origin 
 handles_apart origin history legal =
     subst (λ (n : ℕ). HandlesApart n (after origin history)) (omega arith)
     (apart_from (start origin) 1 history (begin_apart 1 origin.geometry origin.beginning) legal)
+
+pub stands_once : (origin : Origin) (history : List Event) → IsLegal origin history → StandsOnce (length history + 1) (after origin history)
+stands_once origin history legal =
+    let apart = handles_apart origin history legal in
+    record {
+      tickets = all_apart (λ (a b : Arrival). a.ticket ≢ b.ticket) (after origin history).arriving apart.tickets.apart;
+      dirs = all_apart (λ (a b : DirEntry). a.number ≢ b.number) (after origin history).dirs apart.dirs.apart;
+      roots = all_apart (λ (a b : ClaimEntry). a.root ≢ b.root) (after origin history).claims apart.roots;
+      earlier_tickets = apart.tickets.below;
+      earlier_dirs = apart.dirs.below;
+    }

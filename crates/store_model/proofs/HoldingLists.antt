@@ -1,11 +1,12 @@
 -- Lists of which a part is kept, lists of elements that stand apart, and what is found in them.
-use Rattle.std.proofs.Common.{inl, inr, ◌≡◌, ◌≢◌, Bool, true, false, List, [], ◌∷◌, ◌++◌, map, Option, Some, None, All, cond, refl, sym, ap, subst, ◌∙◌}
+use Rattle.std.proofs.Common.{inl, inr, ◌≡◌, ◌≢◌, ◌<◌, ℕ, Bool, true, false, List, [], ◌∷◌, ◌++◌, map, Option, Some, None, All, cond, refl, sym, ap, subst, ◌∙◌, arith}
 use Rattle.std.specs.Prelude.{find, filter, IsSomeAnd}
-use Rattle.std.specs.List.{list_any}
+use Rattle.std.specs.List.{AllPairs, list_any}
 use Rattle.std.specs.Option.{option_map, option_to_list}
 use Rattle.std.proofs.lemmas.Bool.{cases_Bool, true≢false, or_parts, or_from}
 use Rattle.std.proofs.lemmas.List.Elements.{All-nil, All-cons, All-head, All-tail, All-weaker, All-push, All-filter, All-map, filter-append}
 use Rattle.std.proofs.lemmas.List.{append-nil}
+use Rattle.std.proofs.lemmas.List.Kept.{AllPairs-cons}
 
 -- ---- filters
 
@@ -161,6 +162,13 @@ apart_map R g keeps (x ∷ xs) apart = (
   apart_map R g keeps xs apart.1,
 )
 
+none_within : {P : Type 0} (j : ℕ) → j < 0 → P
+none_within j within = absurd (omega arith)
+
+pub all_apart : {X : Type 0} (R : X → X → Type 0) (xs : List X) → AreApart R xs → AllPairs R xs
+all_apart R [] apart = λ i j d lt within. none_within j within
+all_apart R (x ∷ xs) apart = AllPairs-cons R x xs apart.0 (all_apart R xs apart.1)
+
 -- where keys stand apart, an element with the key of the one that is found is that one
 pub found_only : {X K : Type 0} (key : X → K) (k : K) (p : X → Bool) → ((x : X) → p x ≡ true → key x ≡ k) → (xs : List X) (c : X) → AreApart (λ a b. key a ≢ key b) xs → find p xs ≡ Some c → All (λ x. p x ≡ true → x ≡ c) xs
 found_only key k p has [] c apart found = All-nil (λ x. p x ≡ true → x ≡ c)
@@ -240,3 +248,18 @@ map_one f (x ∷ z ∷ xs) y same = absurd (cc same)
 pub mapped : {X Y : Type 0} (f : X → Y) (o : Option X) (y : Y) → option_map f o ≡ Some y → (x : X) × (o ≡ Some x) × (f x ≡ y)
 mapped f None y same = absurd (cc same)
 mapped f (Some x) y same = let value : f x ≡ y = cc same in (x, refl, value)
+
+-- one more element is found where no other passes
+pub find_last : {X : Type 0} (p : X → Bool) (xs : List X) (x : X) → All (λ y. p y ≡ false) xs → p x ≡ true → find p (xs ++ x ∷ []) ≡ Some x
+find_last p [] x fails passes = rw passes refl
+find_last p (y ∷ xs) x fails passes =
+    rw (All-head (λ z. p z ≡ false) y xs fails) (find_last p xs x (All-tail (λ z. p z ≡ false) y xs fails) passes)
+
+-- what is found is found with one more element behind
+pub find_first : {X : Type 0} (p : X → Bool) (xs : List X) (x y : X) → find p xs ≡ Some x → find p (xs ++ y ∷ []) ≡ Some x
+find_first p [] x y found = absurd (cc found)
+find_first p (z ∷ xs) x y found =
+    elim (cases_Bool (p z)) [
+      | inl holds ↦ rw holds (rw holds at found)
+      | inr lacks ↦ rw lacks (find_first p xs x y (rw lacks at found))
+    ]

@@ -14,3 +14,4 @@ pub mod Desk
 pub mod Calls
 pub mod Held
 pub mod HeldAfter
+pub mod Once

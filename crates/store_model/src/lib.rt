@@ -16,7 +16,7 @@ pub use ends::{
     ReadEnd, RetainEnd, StageEnd, WantEnd,
 };
 pub use events::{Act, CallName, Event, Looked, LookedAt};
-pub use holding_laws::lanes_hold_what_the_state_has;
+pub use holding_laws::{handles_stand_once, lanes_hold_what_the_state_has};
 pub use laws::{each_act_keeps_the_rest, histories_go_on, limits};
 pub use replies::{
     ActivateReply, BeginReply, CheckReply, Claim, CloseReply, CollectReply, CommitReply, CopyReply,
