@@ -19,7 +19,7 @@ use Rattle.store_model.proofs.HoldingParts.{TicketsApart, RootsApart, has_lane, 
 use Rattle.store_model.proofs.HoldingOnce.{HandlesApart}
 use Rattle.store_model.proofs.Holding.{holds_as_state, handles_apart}
 
-in_some : {X : Type 0} (o : Option X) (P : X → Type 0) (x : X) → o ≡ Some x → P x → IsSomeAnd o P
+pub in_some : {X : Type 0} (o : Option X) (P : X → Type 0) (x : X) → o ≡ Some x → P x → IsSomeAnd o P
 in_some {X = X} o P x is holds = subst (λ (o : Option X). IsSomeAnd o P) (sym is) holds
 
 ticket_there : (lane number : ℕ) (arriving : List Arrival) (ticket : HeldTicket) → TicketsApart arriving → ticket_with (tickets_of lane arriving) number ≡ Some ticket

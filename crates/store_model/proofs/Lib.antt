@@ -10,3 +10,4 @@ pub mod HoldingThere
 pub mod Calls
 pub mod Views
 pub mod CallsHeld
+pub mod CallsHandles

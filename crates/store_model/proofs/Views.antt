@@ -4,15 +4,16 @@ use Rattle.std.specs.Prelude.{◌==◌, filter}
 use Rattle.std.proofs.lemmas.Bool.{cases_Bool, eq-eqb, ne_eqb}
 use Rattle.std.proofs.lemmas.List.{same_from_push, append-nil}
 use Rattle.std.proofs.lemmas.List.Elements.{All-head, All-tail, All-map, All-filter, All-same}
+use Rattle.open_tracker.specs.declared.dirs.DirEntry.{DirEntry}
 use Rattle.store_model.specs.declared.events.Event.{Event}
 use Rattle.store_model.specs.State.{State, Arrival}
 use Rattle.store_model.specs.Step.{IsDue}
 use Rattle.store_model.specs.History.{Origin, IsLegal, after, Numbered, of_lane_from, of_lane}
 use Rattle.store_model.specs.Holding.{HeldTicket, Held, held}
-use Rattle.store_model.specs.Held.{HoldsAsState, HasHandles, ticket_in, tickets_of}
+use Rattle.store_model.specs.Held.{HoldsAsState, HasHandles, ticket_in, tickets_of, dirs_of}
 use Rattle.store_model.specs.Desk.{View, state_of, held_by, Does, Rests}
 use Rattle.store_model.proofs.Histories.{front_is_legal}
-use Rattle.store_model.proofs.HoldingParts.{has_lane}
+use Rattle.store_model.proofs.HoldingParts.{has_lane, is_open_for}
 use Rattle.store_model.proofs.HoldingOnce.{HandlesApart}
 use Rattle.store_model.proofs.Holding.{holds_as_state, handles_apart}
 use Rattle.store_model.proofs.HoldingThere.{handles_there}
@@ -99,7 +100,7 @@ pub there_before-Does : (old new : View) (IsIts : ℕ → Event → Type 0) (doe
 there_before-Does old new IsIts does =
     there_view old.origin old.lane (old.seen ++ does.others) old.mine (mine_before-Does old new IsIts does) (legal_before-Does old new IsIts does)
 
--- ---- the numbers of tickets
+-- ---- the numbers of tickets and directories
 
 tickets_below : (lane next : ℕ) (h : Held) (s : State) → HandlesApart next s → HoldsAsState lane h s → All (λ (t : HeldTicket). t.number < next) h.tickets
 tickets_below lane next h s apart holds =
@@ -111,4 +112,16 @@ pub tickets_before-Does : (old new : View) (IsIts : ℕ → Event → Type 0) (d
     → All (λ (t : HeldTicket). t.number < length (old.seen ++ does.others) + 1) (held_by old).tickets
 tickets_before-Does old new IsIts does =
     tickets_below old.lane (length (old.seen ++ does.others) + 1) (held_by old) (after old.origin (old.seen ++ does.others))
+    (handles_apart old.origin (old.seen ++ does.others) (legal_before-Does old new IsIts does)) (holds_before-Does old new IsIts does)
+
+dirs_below : (lane next : ℕ) (h : Held) (s : State) → HandlesApart next s → HoldsAsState lane h s → All (λ (d : DirEntry). d.number < next) h.dirs
+dirs_below lane next h s apart holds =
+    All-same (λ (d : DirEntry). d.number < next) h.dirs (dirs_of lane s.dirs) holds.dirs
+    (All-filter (is_open_for lane) (λ (d : DirEntry). d.number < next) s.dirs apart.dirs.below)
+
+-- and so has each directory
+pub dirs_before-Does : (old new : View) (IsIts : ℕ → Event → Type 0) (does : Does old new IsIts)
+    → All (λ (d : DirEntry). d.number < length (old.seen ++ does.others) + 1) (held_by old).dirs
+dirs_before-Does old new IsIts does =
+    dirs_below old.lane (length (old.seen ++ does.others) + 1) (held_by old) (after old.origin (old.seen ++ does.others))
     (handles_apart old.origin (old.seen ++ does.others) (legal_before-Does old new IsIts does)) (holds_before-Does old new IsIts does)
