@@ -78,15 +78,15 @@ held_breaks : (h : Held) (number broken : ℕ) (e : Event) (act : Act) → Break
 held_breaks h number broken e act is = rw is.2 (ap (held_after_break h) is.1)
 
 -- the number of the call's event
-abbrev number_of : (old new : View) (IsIts : ℕ → Event → Type 0) → Does old new IsIts → ℕ
+abbrev pub number_of : (old new : View) (IsIts : ℕ → Event → Type 0) → Does old new IsIts → ℕ
 number_of old new IsIts does = length (old.seen ++ does.others) + 1
 
-acted : (old new : View) (IsIts : ℕ → Event → Type 0) (does : Does old new IsIts) (act : Act) → Acts act does.event
+pub acted : (old new : View) (IsIts : ℕ → Event → Type 0) (does : Does old new IsIts) (act : Act) → Acts act does.event
     → held_by new ≡ held_after_act (held_by old) (number_of old new IsIts does) old.lane act
 acted old new IsIts does act is =
     held_by-Does old new IsIts does ∙ held_acts (held_by old) (number_of old new IsIts does) old.lane does.event act does.lane is
 
-broke : (old new : View) (IsIts : ℕ → Event → Type 0) (does : Does old new IsIts) (act : Act) (broken : ℕ) → Breaks act broken (number_of old new IsIts does) does.event
+pub broke : (old new : View) (IsIts : ℕ → Event → Type 0) (does : Does old new IsIts) (act : Act) (broken : ℕ) → Breaks act broken (number_of old new IsIts does) does.event
     → held_by new ≡ held_after_break (held_by old) act
 broke old new IsIts does act broken is =
     held_by-Does old new IsIts does ∙ held_breaks (held_by old) (number_of old new IsIts does) broken does.event act is

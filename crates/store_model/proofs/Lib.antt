@@ -11,3 +11,4 @@ pub mod Calls
 pub mod Views
 pub mod CallsHeld
 pub mod CallsHandles
+pub mod CallsRest
