@@ -1,15 +1,14 @@
 -- Which handles a lane has after a call: the ticket and the directory that it was given, and those that it had.
-use Rattle.std.proofs.Common.{inl, inr, ◌≡◌, ◌≢◌, ◌+◌, ◌<◌, ℕ, Bool, true, false, not, List, [], ◌∷◌, ◌++◌, length, All, Option, Some, None, refl, sym, ap, subst, ◌∙◌, arith}
-use Rattle.std.specs.Prelude.{◌==◌, find, filter, IsSomeAnd}
+use Rattle.std.proofs.Common.{◌≡◌, ◌≢◌, ◌+◌, ◌<◌, ℕ, Bool, false, not, List, [], ◌∷◌, ◌++◌, length, All, Option, Some, refl, sym, ap, subst, ◌∙◌, arith}
+use Rattle.std.specs.Prelude.{◌==◌, IsSomeAnd}
 use Rattle.std.specs.Option.{option_map}
-use Rattle.std.proofs.lemmas.Bool.{eq-eqb, ne_eqb, eqb-true, and_left, and_from, and_parts, not_from_false}
+use Rattle.std.proofs.lemmas.Bool.{eq-eqb, ne_eqb, eqb-true, and_left, and_from, not_from_false}
 use Rattle.std.proofs.lemmas.List.Elements.{All-weaker}
 use Rattle.pkg_names.specs.NameAndVariant.{NameAndVariant}
 use Rattle.pkg_names.specs.declared.root.Root.{Root}
 use Rattle.package_indexes.specs.declared.Choice.{Choice}
 use Rattle.open_tracker.specs.declared.dirs.DirEntry.{DirEntry}
-use Rattle.open_tracker.specs.Directories.{is_of, root_of, without}
-use Rattle.store_model.specs.declared.events.Event.{Event}
+use Rattle.open_tracker.specs.Directories.{is_of, root_of}
 use Rattle.store_model.specs.declared.replies.Ticket.{Ticket}
 use Rattle.store_model.specs.declared.replies.Dir.{Dir}
 use Rattle.store_model.specs.declared.replies.BeginReply.{BeginReply}
@@ -19,12 +18,12 @@ use Rattle.store_model.specs.declared.replies.WantReply.TheVariants as want
 use Rattle.store_model.specs.declared.replies.OpenReply.TheVariants as opening
 use Rattle.store_model.specs.Holding.{HeldTicket, Held, ticket_with, without_number, dir_of}
 use Rattle.store_model.specs.HeldAfter.{held_after_begin, held_after_want}
-use Rattle.store_model.specs.Desk.{View, state_of, held_by, Does}
+use Rattle.store_model.specs.Desk.{View, held_by, Does}
 use Rattle.store_model.specs.Replies.{IsBegun, IsWanted, IsOpened, IsGivenUp}
 use Rattle.store_model.specs.Calls.{HoldsTicket, Begins, Wants, Opens}
 use Rattle.store_model.proofs.HoldingLists.{some_and, find_last, find_first, find_same}
 use Rattle.store_model.proofs.HoldingThere.{in_some}
-use Rattle.store_model.proofs.Views.{tickets_before-Does, dirs_before-Does, there_after-Does}
+use Rattle.store_model.proofs.Views.{tickets_before-Does, dirs_before-Does}
 use Rattle.store_model.proofs.CallsHeld.{begun, wanted, given_up, opened}
 
 below_apart : (a b next : ℕ) → a < next → b ≡ next → a ≡ b → ⊥

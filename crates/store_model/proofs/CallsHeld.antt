@@ -1,23 +1,14 @@
 -- What a lane holds after each call, by its reply.
-use Rattle.std.proofs.Common.{inl, inr, ◌≡◌, ◌≢◌, ◌+◌, ◌<◌, ℕ, true, false, List, [], ◌∷◌, ◌++◌, length, All, Option, Some, None, refl, sym, ap, subst, ◌∙◌, arith}
-use Rattle.std.specs.Prelude.{◌==◌, find, IsSomeAnd}
-use Rattle.std.specs.Option.{option_map}
-use Rattle.std.proofs.lemmas.Bool.{eq-eqb, ne_eqb}
-use Rattle.std.proofs.lemmas.List.Elements.{All-head, All-tail, All-weaker}
-use Rattle.image_layout.specs.declared.ImageKind.{ImageKind}
+use Rattle.std.proofs.Common.{inl, inr, ◌≡◌, ◌+◌, ℕ, true, false, List, [], ◌∷◌, ◌++◌, length, Some, None, sym, ap, ◌∙◌}
 use Rattle.image_layout.specs.declared.Sys.{Sys}
 use Rattle.pkg_names.specs.NameAndVariant.{NameAndVariant}
 use Rattle.pkg_names.specs.declared.root.Root.{Root}
 use Rattle.package_indexes.specs.declared.Choice.{Choice}
-use Rattle.open_tracker.specs.declared.dirs.DirEntry.{DirEntry}
-use Rattle.system_lists.specs.declared.fault.ManifestFile.{ManifestFile}
-use Rattle.system_lists.specs.declared.fault.ManifestFault.{ManifestFault}
 use Rattle.store_model.specs.declared.ends.Miss.{Miss}
 use Rattle.store_model.specs.declared.events.Event.{Event}
 use Rattle.store_model.specs.declared.events.Act.{Act}
 use Rattle.store_model.specs.declared.events.Act.TheVariants as acts
 use Rattle.store_model.specs.declared.events.CallName.TheVariants as calls
-use Rattle.store_model.specs.declared.events.LookedAt.{LookedAt}
 use Rattle.store_model.specs.declared.ends.BeginEnd.TheVariants as begins
 use Rattle.store_model.specs.declared.ends.WantEnd.TheVariants as wants
 use Rattle.store_model.specs.declared.ends.StageEnd.TheVariants as stages
@@ -36,37 +27,20 @@ use Rattle.store_model.specs.declared.replies.LandReply.{LandReply}
 use Rattle.store_model.specs.declared.replies.LandReply.TheVariants as land
 use Rattle.store_model.specs.declared.replies.OpenReply.{OpenReply}
 use Rattle.store_model.specs.declared.replies.OpenReply.TheVariants as opening
-use Rattle.store_model.specs.declared.replies.ReadReply.{ReadReply}
-use Rattle.store_model.specs.declared.replies.ReadReply.TheVariants as read
-use Rattle.store_model.specs.declared.replies.CheckReply.{CheckReply}
-use Rattle.store_model.specs.declared.replies.CheckReply.TheVariants as check
 use Rattle.store_model.specs.declared.replies.CloseReply.{CloseReply}
 use Rattle.store_model.specs.declared.replies.CloseReply.TheVariants as close
-use Rattle.store_model.specs.declared.replies.CollectReply.{CollectReply}
-use Rattle.store_model.specs.declared.replies.CollectReply.TheVariants as collect
-use Rattle.store_model.specs.declared.replies.RetainReply.{RetainReply}
-use Rattle.store_model.specs.declared.replies.RetainReply.TheVariants as retain
 use Rattle.store_model.specs.declared.replies.StageReply.{StageReply}
 use Rattle.store_model.specs.declared.replies.StageReply.TheVariants as stage
-use Rattle.store_model.specs.declared.replies.CopyReply.{CopyReply}
-use Rattle.store_model.specs.declared.replies.CopyReply.TheVariants as copy
 use Rattle.store_model.specs.declared.replies.SealReply.{SealReply}
 use Rattle.store_model.specs.declared.replies.SealReply.TheVariants as seal
 use Rattle.store_model.specs.declared.replies.ActivateReply.{ActivateReply}
 use Rattle.store_model.specs.declared.replies.ActivateReply.TheVariants as activate
-use Rattle.store_model.specs.declared.replies.CommitReply.{CommitReply}
-use Rattle.store_model.specs.declared.replies.CommitReply.TheVariants as commit
-use Rattle.store_model.specs.declared.replies.RejectReply.{RejectReply}
-use Rattle.store_model.specs.declared.replies.RejectReply.TheVariants as reject
-use Rattle.store_model.specs.State.{Phase}
-use Rattle.store_model.specs.State.Phase.{Filling, Sealed, Done}
-use Rattle.store_model.specs.Holding.{HeldTicket, HeldClaim, Held, ticket_with, without_number, dir_of, held_after_act, held_after_break, held_after_event}
+use Rattle.store_model.specs.Holding.{Held, ticket_with, without_number, dir_of, held_after_act, held_after_break, held_after_event}
 use Rattle.store_model.specs.HeldAfter.{without_ticket, without_claim, held_after_begin, held_after_want, held_after_room, held_after_put, held_after_land, IsHeldAfterOpen, held_after_close, held_after_stage, held_after_seal, held_after_activate}
-use Rattle.store_model.specs.Desk.{View, Keeping, held_by, Does, Rests}
-use Rattle.store_model.specs.Replies.{Acts, Breaks, IsBegun, IsWanted, IsRoom, IsPut, IsLanded, IsMissed, IsGivenUp, IsOpened, IsRead, IsChecked, IsClosed, IsCollected, IsRetained, IsStaged, IsCopied, IsSealed, IsActivated, HasLeftStage, IsCommitted, IsRejected}
-use Rattle.store_model.specs.Calls.{HoldsTicket, Begins, Wants, MakesRoom, Puts, Lands, Opens, Reads, Checks, Closes, Collects, Retains, Stages, Copies, Seals, Activates, Commits, Rejects}
+use Rattle.store_model.specs.Desk.{View, Keeping, held_by, Does}
+use Rattle.store_model.specs.Replies.{Acts, Breaks, IsBegun, IsWanted, IsRoom, IsPut, IsLanded, IsMissed, IsGivenUp, IsOpened, IsClosed, IsStaged, IsSealed, IsActivated, HasLeftStage}
+use Rattle.store_model.specs.Calls.{Begins, Wants, MakesRoom, Puts, Lands, Opens, Closes, Stages, Seals, Activates}
 use Rattle.store_model.proofs.Calls.{held_by-Does, held_by-Rests}
-use Rattle.store_model.proofs.Views.{tickets_before-Does}
 
 -- ---- the event of a call
 
@@ -133,18 +107,24 @@ piece_put claim (put.Taken back) old new rests = held_by-Rests old new rests.0
 piece_put claim (put.Ended end) old new does = acted old new (IsPut claim.root (put.Ended end)) does (acts.Put claim.root (Some end)) does.its
 piece_put claim (put.Broken number) old new does = put_broken claim number old new does
 
-land_broken : (claim : Claim) (len number : ℕ) (old new : View) → Does old new (IsLanded claim.root len (land.Broken number)) → held_by new ≡ without_claim (held_by old)
-land_broken claim len number old new does =
+land_broken : (root : Root) (len number : ℕ) (old new : View) → Does old new (IsLanded root len (land.Broken number)) → held_by new ≡ without_claim (held_by old)
+land_broken root len number old new does =
     elim does.its [
-      | inl refused ↦ acted old new (IsLanded claim.root len (land.Broken number)) does (acts.Refused (calls.Land claim.root) number) refused
-      | inr failed ↦ broke old new (IsLanded claim.root len (land.Broken number)) does (acts.Land claim.root len None []) number failed
+      | inl refused ↦ acted old new (IsLanded root len (land.Broken number)) does (acts.Refused (calls.Land root) number) refused
+      | inr failed ↦ broke old new (IsLanded root len (land.Broken number)) does (acts.Land root len None []) number failed
     ]
 
 pub landed : (claim : Claim) (kept : Keeping → List ℕ → Type 0) (reply : LandReply) (old new : View) → Lands claim kept reply old new → held_by new ≡ held_after_land reply (held_by old)
 landed claim kept land.Landed old new does = acted old new _ does (acts.Land claim.root _ None does.its.0) does.its.1
 landed claim kept (land.Ended end) old new does = acted old new _ does (acts.Land claim.root _ (Some end) []) does.its
-landed claim kept (land.Broken number) old new does = land_broken claim _ number old new does
+landed claim kept (land.Broken number) old new does = land_broken claim.root _ number old new does
 landed claim kept (land.NoMemory back) old new rests = held_by-Rests old new rests.0
+
+pub landed_by_event : (root : Root) (len : ℕ) (reply : LandReply) (old new : View) → Does old new (IsLanded root len reply) → held_by new ≡ held_after_land reply (held_by old)
+landed_by_event root len land.Landed old new does = acted old new (IsLanded root len land.Landed) does (acts.Land root len None does.its.0) does.its.1
+landed_by_event root len (land.Ended end) old new does = acted old new (IsLanded root len (land.Ended end)) does (acts.Land root len (Some end) []) does.its
+landed_by_event root len (land.Broken number) old new does = land_broken root len number old new does
+landed_by_event root len (land.NoMemory back) old new does = absurd does.its
 
 pub missed : (root : Root) (why : Miss) (old new : View) → Does old new (IsMissed root why) → held_by new ≡ without_claim (held_by old)
 missed root why old new does = acted old new (IsMissed root why) does (acts.Missed root why) does.its

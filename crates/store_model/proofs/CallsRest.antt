@@ -1,5 +1,5 @@
 -- The calls that leave what a lane holds.
-use Rattle.std.proofs.Common.{inl, inr, ◌≡◌, ℕ, true, false, List, [], length, Option, Some, None}
+use Rattle.std.proofs.Common.{inl, inr, ◌≡◌, ℕ, true, false, List, length, Some, None}
 use Rattle.image_layout.specs.declared.ImageKind.{ImageKind}
 use Rattle.system_lists.specs.declared.fault.ManifestFile.{ManifestFile}
 use Rattle.system_lists.specs.declared.fault.ManifestFault.{ManifestFault}
@@ -24,7 +24,7 @@ use Rattle.store_model.specs.declared.replies.CommitReply.{CommitReply}
 use Rattle.store_model.specs.declared.replies.CommitReply.TheVariants as commit
 use Rattle.store_model.specs.declared.replies.RejectReply.{RejectReply}
 use Rattle.store_model.specs.declared.replies.RejectReply.TheVariants as reject
-use Rattle.store_model.specs.Desk.{View, held_by, Does, Rests}
+use Rattle.store_model.specs.Desk.{View, held_by}
 use Rattle.store_model.specs.Replies.{IsRead, IsChecked, IsCollected, IsRetained, IsCopied, IsCommitted, IsRejected}
 use Rattle.store_model.specs.Calls.{Reads, Checks, Collects, Retains, Copies, Commits, Rejects}
 use Rattle.store_model.proofs.Calls.{held_by-Rests}

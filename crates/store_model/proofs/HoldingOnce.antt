@@ -55,8 +55,8 @@ use Rattle.package_book.specs.declared.fault.PackageFault.{PackageFault}
 use Rattle.package_book.specs.Names.{names}
 use Rattle.fetch_queue.specs.Fetches.{is_claimed, roomed, with_room, without_claim, first_mark}
 use Rattle.store_model.proofs.HoldingLists.{AreApart, some_and, found_passes, apart_push, apart_filter, apart_map}
-use Rattle.store_model.proofs.HoldingParts.{cond_other, TicketsApart, RootsApart}
-use Rattle.store_model.proofs.HoldingOwn.{SameHoldings, with_sys_same, activated_is, activated_same}
+use Rattle.store_model.proofs.HoldingParts.{cond_other, RootsApart}
+use Rattle.store_model.proofs.HoldingOwn.{with_sys_same, activated_is, activated_same}
 use Rattle.store_model.proofs.HoldingOthers.{StandOnce}
 
 -- ---- numbers

@@ -1,13 +1,12 @@
 -- What a lane holds at its desk is the state's, before and after each call.
-use Rattle.std.proofs.Common.{inl, inr, ◌≡◌, ◌≢◌, ◌+◌, ◌<◌, ℕ, Bool, true, false, List, [], ◌∷◌, ◌++◌, length, All, cond, refl, sym, ap, subst, ◌∙◌, arith}
+use Rattle.std.proofs.Common.{inl, inr, ◌≡◌, ◌≢◌, ◌+◌, ◌<◌, ℕ, List, [], ◌∷◌, ◌++◌, length, All, refl, sym, ap, subst, ◌∙◌, arith}
 use Rattle.std.specs.Prelude.{◌==◌, filter}
 use Rattle.std.proofs.lemmas.Bool.{cases_Bool, eq-eqb, ne_eqb}
-use Rattle.std.proofs.lemmas.List.{same_from_push, append-nil}
+use Rattle.std.proofs.lemmas.List.{same_from_push}
 use Rattle.std.proofs.lemmas.List.Elements.{All-head, All-tail, All-map, All-filter, All-same}
 use Rattle.open_tracker.specs.declared.dirs.DirEntry.{DirEntry}
 use Rattle.store_model.specs.declared.events.Event.{Event}
 use Rattle.store_model.specs.State.{State, Arrival}
-use Rattle.store_model.specs.Step.{IsDue}
 use Rattle.store_model.specs.History.{Origin, IsLegal, after, Numbered, of_lane_from, of_lane}
 use Rattle.store_model.specs.Holding.{HeldTicket, Held, held}
 use Rattle.store_model.specs.Held.{HoldsAsState, HasHandles, ticket_in, tickets_of, dirs_of}

@@ -1,5 +1,5 @@
 -- What a lane holds after a call, by its reply and what it held before.
-use Rattle.std.specs.Prelude.{◌≡◌, ℕ, List, [], ◌∷◌, ◌++◌, Option, Some, None}
+use Rattle.std.specs.Prelude.{◌≡◌, ℕ, [], ◌∷◌, ◌++◌, Some, None}
 use Rattle.std.specs.Option.{option_map}
 use Rattle.image_layout.specs.declared.Sys.{Sys}
 use Rattle.pkg_names.specs.NameAndVariant.{NameAndVariant}

@@ -3,6 +3,7 @@
 //! in words.
 #![tactic(auto)]
 
+mod call_laws;
 mod desk;
 mod ends;
 mod events;
@@ -10,6 +11,10 @@ mod holding_laws;
 mod laws;
 mod replies;
 
+pub use call_laws::{
+    calls_change_directories_and_stages, calls_change_tickets_and_claims, calls_give_handles,
+    other_calls_keep_what_is_held,
+};
 pub use desk::{Desk, RETAIN_LIMIT};
 pub use ends::{
     ActivateEnd, BeginEnd, Cause, CheckEnd, CopyEnd, Difference, Miss, PIECE_LIMIT, READ_LIMIT,
