@@ -47,7 +47,8 @@ held_after_want lane ticket (want.Opened dir) h = record h {
   tickets = without_number h.tickets ticket;
   dirs = h.dirs ++ dir_of dir.number lane (ticket_with h.tickets ticket);
 }
-held_after_want lane ticket (want.Fetch back claim) h = record h { claim = Some (record { root = claim.root; len = None }) }
+held_after_want lane ticket (want.Fetch back claim) h =
+    record h { claim = Some (record { root = claim.root; len = None }) }
 held_after_want lane ticket (want.NotYet back bell) h = h
 held_after_want lane ticket (want.Broken number) h = without_ticket ticket h
 held_after_want lane ticket (want.NoMemory back) h = h
@@ -72,7 +73,8 @@ held_after_land (land.NoMemory claim) h = h
 -- a directory is of some package
 abbrev pub IsHeldAfterOpen : ℕ → OpenReply → Held → Held → Type 0
 IsHeldAfterOpen lane (opening.Opened dir) old new =
-    (root : Root) × (new ≡ record old { dirs = old.dirs ++ record { number = dir.number; lane = lane; root = root } ∷ [] })
+    (root : Root)
+    × (new ≡ record old { dirs = old.dirs ++ record { number = dir.number; lane = lane; root = root } ∷ [] })
 IsHeldAfterOpen lane reply old new = new ≡ old
 
 abbrev pub held_after_close : ℕ → ℕ → CloseReply → Held → Held
