@@ -12,3 +12,11 @@ pub mod Views
 pub mod CallsHeld
 pub mod CallsHandles
 pub mod CallsRest
+pub mod LanesLasting
+mod LanesLists
+pub mod LanesMarks
+pub mod LanesOnce
+pub mod LanesApart
+pub mod LanesKept
+pub mod LanesQuiet
+pub mod LanesDue

@@ -8,6 +8,7 @@ mod desk;
 mod ends;
 mod events;
 mod holding_laws;
+mod lane_laws;
 mod laws;
 mod replies;
 
@@ -22,6 +23,11 @@ pub use ends::{
 };
 pub use events::{Act, CallName, Event, Looked, LookedAt};
 pub use holding_laws::{handles_stand_once, lanes_hold_what_the_state_has};
+pub use lane_laws::{
+    broken_stays, claims_are_granted_once, collections_remove_the_rest,
+    lanes_leave_each_other_alone, lanes_wait_where_it_is_quiet, marks_come_from_ends,
+    what_lasts_changes_at_few_acts,
+};
 pub use laws::{each_act_keeps_the_rest, histories_go_on, limits};
 pub use replies::{
     ActivateReply, BeginReply, CheckReply, Claim, CloseReply, CollectReply, CommitReply, CopyReply,
