@@ -1,12 +1,11 @@
 -- Lists of which a part is kept, lists of elements that stand apart, and what is found in them.
-use Rattle.std.proofs.Common.{inl, inr, ◌≡◌, ◌≢◌, ◌<◌, ℕ, Bool, true, false, List, [], ◌∷◌, ◌++◌, map, Option, Some, None, All, cond, refl, sym, ap, subst, ◌∙◌, arith}
+use Rattle.std.proofs.Common.{inl, inr, ◌≡◌, Bool, true, false, List, [], ◌∷◌, ◌++◌, map, Option, Some, None, All, refl, sym, ap, subst, ◌∙◌}
 use Rattle.std.specs.Prelude.{find, filter, IsSomeAnd}
-use Rattle.std.specs.List.{AllPairs, list_any}
+use Rattle.std.specs.List.{list_any}
 use Rattle.std.specs.Option.{option_map, option_to_list}
-use Rattle.std.proofs.lemmas.Bool.{cases_Bool, true≢false, or_parts, or_from}
-use Rattle.std.proofs.lemmas.List.Elements.{All-nil, All-cons, All-head, All-tail, All-weaker, All-push, All-filter, All-map, filter-append}
+use Rattle.std.proofs.lemmas.Bool.{cases_Bool, or_parts, or_from}
+use Rattle.std.proofs.lemmas.List.Elements.{All-head, All-tail, filter-append}
 use Rattle.std.proofs.lemmas.List.{append-nil}
-use Rattle.std.proofs.lemmas.List.Kept.{AllPairs-cons}
 
 -- ---- filters
 
@@ -23,24 +22,6 @@ filter_swap p q (x ∷ xs) =
         | inr goes ↦ rw (goes, isnt) (filter_swap p q xs)
       ]
     ]
-
--- what is taken away passed no test of the rest
-pub filter_rest : {X : Type 0} (p q : X → Bool) (xs : List X) → All (λ x. p x ≡ true → q x ≡ true) xs → filter p (filter q xs) ≡ filter p xs
-filter_rest p q [] kept = refl
-filter_rest p q (x ∷ xs) kept =
-    let here : p x ≡ true → q x ≡ true = All-head (λ y. p y ≡ true → q y ≡ true) x xs kept in
-    let rest : filter p (filter q xs) ≡ filter p xs = filter_rest p q xs (All-tail (λ y. p y ≡ true → q y ≡ true) x xs kept) in
-    elim (cases_Bool (p x)) [
-      | inl is ↦ rw (here is, is) (ap (λ ys. x ∷ ys) rest)
-      | inr isnt ↦ elim (cases_Bool (q x)) [ inl stays ↦ rw (stays, isnt) rest | inr goes ↦ rw (goes, isnt) rest ]
-    ]
-
-pub filter_passed : {X : Type 0} (p : X → Bool) (P : X → Type 0) (xs : List X) → All (λ x. p x ≡ true → P x) xs → All P (filter p xs)
-filter_passed p P [] holds = All-nil P
-filter_passed p P (x ∷ xs) holds =
-    let here : p x ≡ true → P x = All-head (λ y. p y ≡ true → P y) x xs holds in
-    let rest : All P (filter p xs) = filter_passed p P xs (All-tail (λ y. p y ≡ true → P y) x xs holds) in
-    elim (cases_Bool (p x)) [ inl is ↦ rw is (All-cons P x (filter p xs) (here is) rest) | inr isnt ↦ rw isnt rest ]
 
 pub filter-map : {X Y : Type 0} (f : X → Y) (q : Y → Bool) (xs : List X) → filter q (map f xs) ≡ map f (filter (λ x. q (f x)) xs)
 filter-map f q [] = refl
@@ -63,13 +44,6 @@ filter_none p (x ∷ xs) none =
     rw parts.0 (filter_none p xs parts.1)
 
 -- ---- maps
-
-pub map_on : {X : Type 0} (g : X → X) (xs : List X) → All (λ x. g x ≡ x) xs → map g xs ≡ xs
-map_on g [] same = refl
-map_on g (x ∷ xs) same =
-    let here : g x ≡ x = All-head (λ y. g y ≡ y) x xs same in
-    let rest : map g xs ≡ xs = map_on g xs (All-tail (λ y. g y ≡ y) x xs same) in
-    ap (λ y. y ∷ map g xs) here ∙ ap (λ ys. x ∷ ys) rest
 
 pub map_same : {X Y : Type 0} (f : X → Y) (g : X → X) → ((x : X) → f (g x) ≡ f x) → (xs : List X) → map f (map g xs) ≡ map f xs
 map_same f g same [] = refl
@@ -136,54 +110,6 @@ found_alone f p (y ∷ []) o x few found =
 found_alone f p (y ∷ z ∷ xs) None x few found = absurd (cc few)
 found_alone f p (y ∷ z ∷ xs) (Some w) x few found = absurd (cc few)
 
--- ---- elements that stand apart
-
-abbrev pub AreApart : {X : Type 0} → (X → X → Type 0) → List X → Type 0
-AreApart R [] = Unit {0}
-AreApart R (x ∷ xs) = All (R x) xs × AreApart R xs
-
-pub apart_push : {X : Type 0} (R : X → X → Type 0) (xs : List X) (y : X) → AreApart R xs → All (λ x. R x y) xs → AreApart R (xs ++ y ∷ [])
-apart_push R [] y apart new = (All-nil (R y), tt)
-apart_push R (x ∷ xs) y apart new = (
-  All-push (R x) xs y apart.0 (All-head (λ z. R z y) x xs new),
-  apart_push R xs y apart.1 (All-tail (λ z. R z y) x xs new),
-)
-
-pub apart_filter : {X : Type 0} (R : X → X → Type 0) (p : X → Bool) (xs : List X) → AreApart R xs → AreApart R (filter p xs)
-apart_filter R p [] apart = tt
-apart_filter R p (x ∷ xs) apart =
-    let rest : AreApart R (filter p xs) = apart_filter R p xs apart.1 in
-    elim (cases_Bool (p x)) [ inl is ↦ rw is (All-filter p (R x) xs apart.0, rest) | inr isnt ↦ rw isnt rest ]
-
-pub apart_map : {X : Type 0} (R : X → X → Type 0) (g : X → X) → ((x y : X) → R x y → R (g x) (g y)) → (xs : List X) → AreApart R xs → AreApart R (map g xs)
-apart_map R g keeps [] apart = tt
-apart_map R g keeps (x ∷ xs) apart = (
-  All-map (R (g x)) g xs (All-weaker (R x) (λ y. R (g x) (g y)) (keeps x) xs apart.0),
-  apart_map R g keeps xs apart.1,
-)
-
-none_within : {P : Type 0} (j : ℕ) → j < 0 → P
-none_within j within = absurd (omega arith)
-
-pub all_apart : {X : Type 0} (R : X → X → Type 0) (xs : List X) → AreApart R xs → AllPairs R xs
-all_apart R [] apart = λ i j d lt within. none_within j within
-all_apart R (x ∷ xs) apart = AllPairs-cons R x xs apart.0 (all_apart R xs apart.1)
-
--- where keys stand apart, an element with the key of the one that is found is that one
-pub found_only : {X K : Type 0} (key : X → K) (k : K) (p : X → Bool) → ((x : X) → p x ≡ true → key x ≡ k) → (xs : List X) (c : X) → AreApart (λ a b. key a ≢ key b) xs → find p xs ≡ Some c → All (λ x. p x ≡ true → x ≡ c) xs
-found_only key k p has [] c apart found = All-nil (λ x. p x ≡ true → x ≡ c)
-found_only key k p has (x ∷ xs) c apart found =
-    elim (cases_Bool (p x)) [
-      | inl is ↦
-          let here : Some x ≡ Some c = rw is at found in
-          let same : x ≡ c = cc here in
-          All-cons (λ y. p y ≡ true → y ≡ c) x xs (λ _. same)
-          (All-weaker (λ y. key x ≢ key y) (λ y. p y ≡ true → y ≡ c) (λ y ne passes. absurd (ne (has x is ∙ sym (has y passes)))) xs apart.0)
-      | inr isnt ↦
-          All-cons (λ y. p y ≡ true → y ≡ c) x xs (λ passes. absurd (true≢false (sym passes ∙ isnt)))
-          (found_only key k p has xs c apart.1 (rw isnt at found))
-    ]
-
 -- ---- what is found among those that are kept
 
 -- what holds of all holds of the one that is found
@@ -196,27 +122,6 @@ found_has P p (y ∷ xs) x all found =
           let same : y ≡ x = cc here in
           subst P same (All-head P y xs all)
       | inr lacks ↦ found_has P p xs x (All-tail P y xs all) (rw lacks at found)
-    ]
-
--- where keys stand apart, what is found among those that are kept is found among all
-pub found_of_all : {X K : Type 0} (key : X → K) (k : K) (p q : X → Bool) → ((x : X) → p x ≡ true → key x ≡ k) → (xs : List X) (x : X) → AreApart (λ a b. key a ≢ key b) xs → find p (filter q xs) ≡ Some x → find p xs ≡ Some x
-found_of_all key k p q has [] x apart found = absurd (cc found)
-found_of_all key k p q has (y ∷ xs) x apart found =
-    elim (cases_Bool (q y)) [
-      | inl kept ↦
-          let here : cond (p y) (Some y) (find p (filter q xs)) ≡ Some x = rw kept at found in
-          elim (cases_Bool (p y)) [
-            | inl holds ↦ rw holds (rw holds at here)
-            | inr lacks ↦ rw lacks (found_of_all key k p q has xs x apart.1 (rw lacks at here))
-          ]
-      | inr gone ↦
-          let rest : find p (filter q xs) ≡ Some x = rw gone at found in
-          elim (cases_Bool (p y)) [
-            | inl holds ↦ absurd
-                (found_has (λ z. key y ≢ key z) p (filter q xs) x (All-filter q (λ z. key y ≢ key z) xs apart.0) rest
-                (has y holds ∙ sym (has x (found_passes p (filter q xs) x rest))))
-            | inr lacks ↦ rw lacks (found_of_all key k p q has xs x apart.1 rest)
-          ]
     ]
 
 -- where all that pass are kept, the same is found

@@ -51,9 +51,9 @@ use Rattle.store_model.specs.Acts.Collect.{next_collect}
 use Rattle.store_model.specs.Acts.Refused.{IsHandedOf, next_refused}
 use Rattle.store_model.specs.Step.{next, IsActDue, next_broken, MayWrite, IsActDueIf, next_of, seen_by, step, IsDue}
 use Rattle.store_model.specs.Holding.{HeldTicket, Held, without_number, ticket_with, dir_of, held_after_call, held_after_act, held_after_break, held_after_event}
-use Rattle.store_model.specs.Held.{HoldsAsState, ticket_in, tickets_of, claims_of, dirs_of, phase_of}
+use Rattle.store_model.specs.Held.{ticket_in}
 use Rattle.store_model.proofs.HoldingLists.{some_and}
-use Rattle.store_model.proofs.HoldingParts.{begun_own, dropped_own, ticket_found, marked_tickets, claimed_own, unclaimed_own, roomed_own, opened_own, closed_own, staged_own}
+use Rattle.store_model.proofs.HoldingParts.{HoldsIn, lane_tickets, lane_claims, lane_dirs, lane_phase, begun_own, dropped_own, ticket_found, marked_tickets, claimed_own, unclaimed_own, roomed_own, opened_own, closed_own, staged_own}
 
 -- ---- states that differ in nothing that is held
 
@@ -63,12 +63,12 @@ pub record SameHoldings (s t : State) : Type 0 where
   pub dirs : t.dirs ≡ s.dirs
   pub stage : t.stage ≡ s.stage
 
-pub carried : (lane : ℕ) (h : Held) (s t : State) → SameHoldings s t → HoldsAsState lane h s → HoldsAsState lane h t
+pub carried : (lane : ℕ) (h : Held) (s t : State) → SameHoldings s t → HoldsIn lane h s → HoldsIn lane h t
 carried lane h s t same holds = record {
-  tickets = holds.tickets ∙ ap (tickets_of lane) (sym same.arriving);
-  claim = holds.claim ∙ ap (claims_of lane) (sym same.claims);
-  dirs = holds.dirs ∙ ap (dirs_of lane) (sym same.dirs);
-  stage = holds.stage ∙ ap (phase_of lane) (sym same.stage);
+  tickets = holds.tickets ∙ ap (lane_tickets lane) (sym same.arriving);
+  claim = holds.claim ∙ ap (lane_claims lane) (sym same.claims);
+  dirs = holds.dirs ∙ ap (lane_dirs lane) (sym same.dirs);
+  stage = holds.stage ∙ ap (lane_phase lane) (sym same.stage);
 }
 
 pub settled_same : (seen : List LookedAt) (s : State) → SameHoldings s (settle seen s)
@@ -99,7 +99,7 @@ put_claim s lane root end due = absurd due
 
 -- ---- an act of the lane itself
 
-own_ended : (s : State) (lane : ℕ) (h : Held) (root : Root) (end : FetchEnd) → HoldsAsState lane h s → IsClaimOf s lane root → HoldsAsState lane (record h { claim = None }) (ended s root end)
+own_ended : (s : State) (lane : ℕ) (h : Held) (root : Root) (end : FetchEnd) → HoldsIn lane h s → IsClaimOf s lane root → HoldsIn lane (record h { claim = None }) (ended s root end)
 own_ended s lane h root end holds handed = record {
   tickets = holds.tickets ∙ sym (marked_tickets lane s.books root end s.arriving);
   claim = sym (unclaimed_own lane s.claims root h.claim holds.claim handed);
@@ -107,7 +107,7 @@ own_ended s lane h root end holds handed = record {
   stage = holds.stage;
 }
 
-own_unclaimed : (s : State) (lane : ℕ) (h : Held) (root : Root) → HoldsAsState lane h s → IsClaimOf s lane root → HoldsAsState lane (record h { claim = None }) (unclaimed s root)
+own_unclaimed : (s : State) (lane : ℕ) (h : Held) (root : Root) → HoldsIn lane h s → IsClaimOf s lane root → HoldsIn lane (record h { claim = None }) (unclaimed s root)
 own_unclaimed s lane h root holds handed = record {
   tickets = holds.tickets;
   claim = sym (unclaimed_own lane s.claims root h.claim holds.claim handed);
@@ -115,7 +115,7 @@ own_unclaimed s lane h root holds handed = record {
   stage = holds.stage;
 }
 
-own_gave_up : (s : State) (lane : ℕ) (h : Held) (ticket : ℕ) → HoldsAsState lane h s → HoldsAsState lane (record h { tickets = without_number h.tickets ticket }) (next_gave_up s ticket)
+own_gave_up : (s : State) (lane : ℕ) (h : Held) (ticket : ℕ) → HoldsIn lane h s → HoldsIn lane (record h { tickets = without_number h.tickets ticket }) (next_gave_up s ticket)
 own_gave_up s lane h ticket holds = record {
   tickets = ap (λ (ts : List HeldTicket). without_number ts ticket) holds.tickets ∙ sym (dropped_own lane ticket s.arriving);
   claim = holds.claim;
@@ -123,8 +123,8 @@ own_gave_up s lane h ticket holds = record {
   stage = holds.stage;
 }
 
-own_begin : (s : State) (number lane : ℕ) (h : Held) (path : NameAndVariant) (root : Root) → HoldsAsState lane h s
-    → HoldsAsState lane (record h { tickets = h.tickets ++ record { number = number; path = path; root = root } ∷ [] }) (next_begin s number lane path (begins.Ticket root))
+own_begin : (s : State) (number lane : ℕ) (h : Held) (path : NameAndVariant) (root : Root) → HoldsIn lane h s
+    → HoldsIn lane (record h { tickets = h.tickets ++ record { number = number; path = path; root = root } ∷ [] }) (next_begin s number lane path (begins.Ticket root))
 own_begin s number lane h path root holds =
     let a : Arrival = record { ticket = number; lane = lane; path = path; root = root; mark = None } in
     record {
@@ -134,8 +134,8 @@ own_begin s number lane h path root holds =
       stage = holds.stage;
     }
 
-own_fetch : (s : State) (number lane : ℕ) (h : Held) (ticket : ℕ) (root : Root) → HoldsAsState lane h s → IsDueWant s lane ticket (wants.Fetch root)
-    → HoldsAsState lane (record h { claim = Some (record { root = root; len = None }) }) (next_want s number lane ticket (wants.Fetch root))
+own_fetch : (s : State) (number lane : ℕ) (h : Held) (ticket : ℕ) (root : Root) → HoldsIn lane h s → IsDueWant s lane ticket (wants.Fetch root)
+    → HoldsIn lane (record h { claim = Some (record { root = root; len = None }) }) (next_want s number lane ticket (wants.Fetch root))
 own_fetch s number lane h ticket root holds due =
     let answered = some_and (arrival_of s.arriving ticket) (IsAnswered s lane (wants.Fetch root)) due in
     let c : ClaimEntry = record { root = root; lane = lane; len = None } in
@@ -146,8 +146,8 @@ own_fetch s number lane h ticket root holds due =
       stage = holds.stage;
     }
 
-own_opened : (s : State) (number lane : ℕ) (h : Held) (ticket : ℕ) → HoldsAsState lane h s → IsDueWant s lane ticket wants.Opened
-    → HoldsAsState lane (record h { tickets = without_number h.tickets ticket; dirs = h.dirs ++ dir_of number lane (ticket_with h.tickets ticket) }) (next_want s number lane ticket wants.Opened)
+own_opened : (s : State) (number lane : ℕ) (h : Held) (ticket : ℕ) → HoldsIn lane h s → IsDueWant s lane ticket wants.Opened
+    → HoldsIn lane (record h { tickets = without_number h.tickets ticket; dirs = h.dirs ++ dir_of number lane (ticket_with h.tickets ticket) }) (next_want s number lane ticket wants.Opened)
 own_opened s number lane h ticket holds due =
     let answered = some_and (arrival_of s.arriving ticket) (IsAnswered s lane wants.Opened) due in
     let d : DirEntry = record { number = number; lane = lane; root = answered.0.root } in
@@ -158,20 +158,20 @@ own_opened s number lane h ticket holds due =
       claim = holds.claim;
       dirs =
           ap (λ (o : Option HeldTicket). h.dirs ++ dir_of number lane o) found ∙ ap (λ (ds : List DirEntry). ds ++ d ∷ []) holds.dirs ∙ sym (opened_own lane s.dirs d refl) ∙ sym
-          (ap (λ (o : Option Arrival). dirs_of lane (with_directory s.dirs number lane o)) answered.1);
+          (ap (λ (o : Option Arrival). lane_dirs lane (with_directory s.dirs number lane o)) answered.1);
       stage = holds.stage;
     }
 
-own_want : (s : State) (number lane : ℕ) (h : Held) (ticket : ℕ) (reply : WantEnd) → HoldsAsState lane h s → IsDueWant s lane ticket reply
-    → HoldsAsState lane (held_after_act h number lane (Want ticket reply)) (next_want s number lane ticket reply)
+own_want : (s : State) (number lane : ℕ) (h : Held) (ticket : ℕ) (reply : WantEnd) → HoldsIn lane h s → IsDueWant s lane ticket reply
+    → HoldsIn lane (held_after_act h number lane (Want ticket reply)) (next_want s number lane ticket reply)
 own_want s number lane h ticket (wants.Fetch root) holds due = own_fetch s number lane h ticket root holds due
 own_want s number lane h ticket wants.Opened holds due = own_opened s number lane h ticket holds due
 own_want s number lane h ticket (wants.Failed cause) holds due =
     let given = own_gave_up s lane h ticket holds in
     record { tickets = given.tickets; claim = given.claim; dirs = given.dirs; stage = given.stage }
 
-own_room : (s : State) (number lane : ℕ) (h : Held) (root : Root) (len : ℕ) (reply : Option FetchEnd) → HoldsAsState lane h s → IsDueRoom s lane root len reply
-    → HoldsAsState lane (held_after_act h number lane (Room root len reply)) (next_room s root len reply)
+own_room : (s : State) (number lane : ℕ) (h : Held) (root : Root) (len : ℕ) (reply : Option FetchEnd) → HoldsIn lane h s → IsDueRoom s lane root len reply
+    → HoldsIn lane (held_after_act h number lane (Room root len reply)) (next_room s root len reply)
 own_room s number lane h root len None holds due = record {
   tickets = holds.tickets;
   claim = roomed_own lane s.claims root len h.claim holds.claim (roomless_claim s lane root due.0);
@@ -180,25 +180,25 @@ own_room s number lane h root len None holds due = record {
 }
 own_room s number lane h root len (Some end) holds due = own_ended s lane h root end holds (roomless_claim s lane root due.0)
 
-own_put : (s : State) (lane : ℕ) (h : Held) (root : Root) (reply : Option FetchEnd) → HoldsAsState lane h s → IsDuePut s lane root reply
-    → HoldsAsState lane (record h { claim = None }) (next_put s root reply)
+own_put : (s : State) (lane : ℕ) (h : Held) (root : Root) (reply : Option FetchEnd) → HoldsIn lane h s → IsDuePut s lane root reply
+    → HoldsIn lane (record h { claim = None }) (next_put s root reply)
 own_put s lane h root None holds due = absurd due
 own_put s lane h root (Some end) holds due = own_ended s lane h root end holds (put_claim s lane root end due)
 
-own_land : (s : State) (lane : ℕ) (h : Held) (root : Root) (len : ℕ) (reply : Option FetchEnd) → HoldsAsState lane h s → IsDueLand s lane root len reply
-    → HoldsAsState lane (record h { claim = None }) (next_land s root len reply)
+own_land : (s : State) (lane : ℕ) (h : Held) (root : Root) (len : ℕ) (reply : Option FetchEnd) → HoldsIn lane h s → IsDueLand s lane root len reply
+    → HoldsIn lane (record h { claim = None }) (next_land s root len reply)
 own_land s lane h root len None holds due =
     let gone = own_unclaimed s lane h root holds (room_claim s lane root len due.0) in
     record { tickets = gone.tickets; claim = gone.claim; dirs = gone.dirs; stage = gone.stage }
 own_land s lane h root len (Some end) holds due = own_ended s lane h root end holds (room_claim s lane root len due.0)
 
-own_missed : (s : State) (lane : ℕ) (h : Held) (root : Root) (why : Miss) → HoldsAsState lane h s → IsClaimOf s lane root → HoldsAsState lane (record h { claim = None }) (next_missed s root why)
+own_missed : (s : State) (lane : ℕ) (h : Held) (root : Root) (why : Miss) → HoldsIn lane h s → IsClaimOf s lane root → HoldsIn lane (record h { claim = None }) (next_missed s root why)
 own_missed s lane h root misses.Absent holds handed = own_ended s lane h root ends.Absent holds handed
 own_missed s lane h root misses.Read holds handed = own_ended s lane h root ends.Read holds handed
 own_missed s lane h root misses.Memory holds handed = own_unclaimed s lane h root holds handed
 
-own_open : (s : State) (number lane : ℕ) (h : Held) (path : NameAndVariant) (reply : Option Root) → HoldsAsState lane h s
-    → HoldsAsState lane (held_after_act h number lane (OpenPath path reply)) (next_open_path s number lane reply)
+own_open : (s : State) (number lane : ℕ) (h : Held) (path : NameAndVariant) (reply : Option Root) → HoldsIn lane h s
+    → HoldsIn lane (held_after_act h number lane (OpenPath path reply)) (next_open_path s number lane reply)
 own_open s number lane h path None holds = record { tickets = holds.tickets; claim = holds.claim; dirs = holds.dirs; stage = holds.stage }
 own_open s number lane h path (Some root) holds =
     let d : DirEntry = record { number = number; lane = lane; root = root } in
@@ -210,19 +210,19 @@ own_open s number lane h path (Some root) holds =
     }
 
 -- the stage of a lane
-staged : (s t : State) (lane : ℕ) (h : Held) (phase : Phase) → HoldsAsState lane h s → t.arriving ≡ s.arriving → t.claims ≡ s.claims → t.dirs ≡ s.dirs → IsStageOf t lane phase
-    → HoldsAsState lane (record h { stage = Some phase }) t
+staged : (s t : State) (lane : ℕ) (h : Held) (phase : Phase) → HoldsIn lane h s → t.arriving ≡ s.arriving → t.claims ≡ s.claims → t.dirs ≡ s.dirs → IsStageOf t lane phase
+    → HoldsIn lane (record h { stage = Some phase }) t
 staged s t lane h phase holds arriving claims dirs stage =
     let now : StageOf = record { lane = lane; phase = phase } in
     record {
-      tickets = holds.tickets ∙ ap (tickets_of lane) (sym arriving);
-      claim = holds.claim ∙ ap (claims_of lane) (sym claims);
-      dirs = holds.dirs ∙ ap (dirs_of lane) (sym dirs);
-      stage = sym (ap (phase_of lane) stage ∙ staged_own lane now refl);
+      tickets = holds.tickets ∙ ap (lane_tickets lane) (sym arriving);
+      claim = holds.claim ∙ ap (lane_claims lane) (sym claims);
+      dirs = holds.dirs ∙ ap (lane_dirs lane) (sym dirs);
+      stage = sym (ap (lane_phase lane) stage ∙ staged_own lane now refl);
     }
 
-own_stage : (s : State) (number lane : ℕ) (h : Held) (epoch : ℕ) (reply : StageEnd) → HoldsAsState lane h s
-    → HoldsAsState lane (held_after_act h number lane (Stage epoch reply)) (next_stage s lane reply)
+own_stage : (s : State) (number lane : ℕ) (h : Held) (epoch : ℕ) (reply : StageEnd) → HoldsIn lane h s
+    → HoldsIn lane (held_after_act h number lane (Stage epoch reply)) (next_stage s lane reply)
 own_stage s number lane h epoch (stages.Turn slot) holds =
     let same = with_sys_same (record s { abr = abr_after_stage s slot; stage = Some (record { lane = lane; phase = Filling }); staged = None }) slot None in
     staged s (staging s lane slot) lane h Filling holds same.arriving same.claims same.dirs same.stage
@@ -231,8 +231,8 @@ own_stage s number lane h epoch (stages.Busy other) holds = holds
 own_stage s number lane h epoch stages.NotCommitted holds = holds
 own_stage s number lane h epoch (stages.Older have) holds = holds
 
-own_seal : (s : State) (number lane : ℕ) (h : Held) (sys : Sys) (reply : Option Difference) → HoldsAsState lane h s
-    → HoldsAsState lane (held_after_act h number lane (Seal sys reply)) (next_seal s lane sys reply)
+own_seal : (s : State) (number lane : ℕ) (h : Held) (sys : Sys) (reply : Option Difference) → HoldsIn lane h s
+    → HoldsIn lane (held_after_act h number lane (Seal sys reply)) (next_seal s lane sys reply)
 own_seal s number lane h sys None holds = staged s (next_seal s lane sys None) lane h (Sealed sys) holds refl refl refl refl
 own_seal s number lane h sys (Some difference) holds = holds
 
@@ -246,39 +246,39 @@ activated_same s lane seen slot sys =
     let same = with_sys_same (record s { abr = active_record slot s.abr; stage = Some (record { lane = lane; phase = Done }); staged = Some (base_of (staged_verdict s seen sys)) }) slot (Some sys) in
     record { arriving = same.arriving; claims = same.claims; dirs = same.dirs; stage = same.stage }
 
-own_activate : (s : State) (number lane : ℕ) (h : Held) (seen : List LookedAt) (reply : ActivateEnd) → HoldsAsState lane h s → IsDueActivate s lane seen reply
-    → HoldsAsState lane (held_after_act h number lane (Activate reply seen)) (next_activate s lane seen reply)
+own_activate : (s : State) (number lane : ℕ) (h : Held) (seen : List LookedAt) (reply : ActivateEnd) → HoldsIn lane h s → IsDueActivate s lane seen reply
+    → HoldsIn lane (held_after_act h number lane (Activate reply seen)) (next_activate s lane seen reply)
 own_activate s number lane h seen (activations.Active slot) holds due =
     let same = activated_same s lane seen slot due.sys in
-    subst (λ (t : State). HoldsAsState lane (record h { stage = Some Done }) t) (sym (activated_is s lane seen slot due.sys due.stage))
+    subst (λ (t : State). HoldsIn lane (record h { stage = Some Done }) t) (sym (activated_is s lane seen slot due.sys due.stage))
     (staged s (activated s lane seen slot due.sys) lane h Done holds same.arriving same.claims same.dirs same.stage)
 own_activate s number lane h seen (activations.BaseMissing root) holds due = holds
 own_activate s number lane h seen (activations.NotASystem why) holds due = holds
 own_activate s number lane h seen activations.DiskRead holds due = holds
 own_activate s number lane h seen (activations.Rotten root got) holds due = holds
 
-own_refused : (s : State) (lane : ℕ) (h : Held) (call : CallName) → HoldsAsState lane h s → IsHandedOf s lane call → HoldsAsState lane (held_after_call h call) (next_refused s call)
+own_refused : (s : State) (lane : ℕ) (h : Held) (call : CallName) → HoldsIn lane h s → IsHandedOf s lane call → HoldsIn lane (held_after_call h call) (next_refused s call)
 own_refused s lane h (calls.Want ticket) holds handed = own_gave_up s lane h ticket holds
 own_refused s lane h (calls.Room root) holds handed = own_unclaimed s lane h root holds handed
 own_refused s lane h (calls.Put root) holds handed = own_unclaimed s lane h root holds handed
 own_refused s lane h (calls.Land root) holds handed = own_unclaimed s lane h root holds handed
 own_refused s lane h call holds handed = holds
 
-own_begun : (s : State) (number lane : ℕ) (h : Held) (path : NameAndVariant) (choice : Choice) (reply : BeginEnd) (seen : List LookedAt) → HoldsAsState lane h s
-    → HoldsAsState lane (held_after_act h number lane (Begin path choice reply seen)) (next_begin s number lane path reply)
+own_begun : (s : State) (number lane : ℕ) (h : Held) (path : NameAndVariant) (choice : Choice) (reply : BeginEnd) (seen : List LookedAt) → HoldsIn lane h s
+    → HoldsIn lane (held_after_act h number lane (Begin path choice reply seen)) (next_begin s number lane path reply)
 own_begun s number lane h path choice (begins.Ticket root) seen holds = own_begin s number lane h path root holds
 own_begun s number lane h path choice reply seen holds = record { tickets = holds.tickets; claim = holds.claim; dirs = holds.dirs; stage = holds.stage }
 
-pub collected : (s : State) (lane : ℕ) (h : Held) (reply : Option (List Root)) → HoldsAsState lane h s → HoldsAsState lane h (next_collect s reply)
+pub collected : (s : State) (lane : ℕ) (h : Held) (reply : Option (List Root)) → HoldsIn lane h s → HoldsIn lane h (next_collect s reply)
 collected s lane h None holds = holds
 collected s lane h (Some roots) holds = record { tickets = holds.tickets; claim = holds.claim; dirs = holds.dirs; stage = holds.stage }
 
-pub committed : (s : State) (lane : ℕ) (h : Held) (done : Bool) → HoldsAsState lane h s → HoldsAsState lane h (next_commit s done)
+pub committed : (s : State) (lane : ℕ) (h : Held) (done : Bool) → HoldsIn lane h s → HoldsIn lane h (next_commit s done)
 committed s lane h true holds = record { tickets = holds.tickets; claim = holds.claim; dirs = holds.dirs; stage = holds.stage }
 committed s lane h false holds = holds
 
 -- an act that is answered as its condition says
-pub own_act : (s : State) (number lane : ℕ) (h : Held) (act : Act) → HoldsAsState lane h s → IsActDue s lane act → HoldsAsState lane (held_after_act h number lane act) (next s number lane act)
+pub own_act : (s : State) (number lane : ℕ) (h : Held) (act : Act) → HoldsIn lane h s → IsActDue s lane act → HoldsIn lane (held_after_act h number lane act) (next s number lane act)
 own_act s number lane h (Boot slot seen) holds due = record { tickets = holds.tickets; claim = holds.claim; dirs = holds.dirs; stage = holds.stage }
 own_act s number lane h (Begin path choice reply seen) holds due = own_begun s number lane h path choice reply seen holds
 own_act s number lane h (Want ticket reply) holds due = own_want s number lane h ticket reply holds due
@@ -308,7 +308,7 @@ own_act s number lane h (Reject file why) holds due = holds
 own_act s number lane h (Refused call broken) holds due = own_refused s lane h call holds due.handed
 
 -- one in which a write failed
-own_break : (s : State) (number lane : ℕ) (h : Held) (act : Act) → HoldsAsState lane h s → MayWrite s number lane act → HoldsAsState lane (held_after_break h act) (next_broken s number act)
+own_break : (s : State) (number lane : ℕ) (h : Held) (act : Act) → HoldsIn lane h s → MayWrite s number lane act → HoldsIn lane (held_after_break h act) (next_broken s number act)
 own_break s number lane h (Put root reply) holds may =
     let gone = own_unclaimed s lane h root holds (room_claim s lane root may.1.0 may.1.1) in
     record { tickets = gone.tickets; claim = gone.claim; dirs = gone.dirs; stage = gone.stage }
@@ -317,13 +317,13 @@ own_break s number lane h (Land root len reply seen) holds may =
     record { tickets = gone.tickets; claim = gone.claim; dirs = gone.dirs; stage = gone.stage }
 own_break s number lane h act holds may = record { tickets = holds.tickets; claim = holds.claim; dirs = holds.dirs; stage = holds.stage }
 
-own_if : (broke : Bool) (s : State) (number lane : ℕ) (h : Held) (act : Act) → HoldsAsState lane h s → IsActDueIf broke s number lane act
-    → HoldsAsState lane (cond broke (held_after_break h act) (held_after_act h number lane act)) (cond broke (next_broken s number act) (next s number lane act))
+own_if : (broke : Bool) (s : State) (number lane : ℕ) (h : Held) (act : Act) → HoldsIn lane h s → IsActDueIf broke s number lane act
+    → HoldsIn lane (cond broke (held_after_break h act) (held_after_act h number lane act)) (cond broke (next_broken s number act) (next s number lane act))
 own_if true s number lane h act holds due = own_break s number lane h act holds due.0
 own_if false s number lane h act holds due = own_act s number lane h act holds due
 
 -- an event of the lane
-pub own_event : (s : State) (number : ℕ) (h : Held) (e : Event) → HoldsAsState e.lane h s → IsDue s number e → HoldsAsState e.lane (held_after_event h number e) (step s number e)
+pub own_event : (s : State) (number : ℕ) (h : Held) (e : Event) → HoldsIn e.lane h s → IsDue s number e → HoldsIn e.lane (held_after_event h number e) (step s number e)
 own_event s number h e holds due =
     carried e.lane (held_after_event h number e) (next_of s number e) (step s number e) (settled_same (seen_by e.act) (next_of s number e))
     (own_if e.broke s number e.lane h e.act holds due.due)

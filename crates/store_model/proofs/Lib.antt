@@ -3,8 +3,6 @@ pub mod Knowing
 pub mod HoldingLists
 pub mod HoldingParts
 pub mod HoldingOwn
-pub mod HoldingOthers
-pub mod HoldingOnce
 pub mod Holding
 pub mod HoldingThere
 pub mod Calls

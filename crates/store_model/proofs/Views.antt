@@ -9,12 +9,13 @@ use Rattle.store_model.specs.declared.events.Event.{Event}
 use Rattle.store_model.specs.State.{State, Arrival}
 use Rattle.store_model.specs.History.{Origin, IsLegal, after, Numbered, of_lane_from, of_lane}
 use Rattle.store_model.specs.Holding.{HeldTicket, Held, held}
-use Rattle.store_model.specs.Held.{HoldsAsState, HasHandles, ticket_in, tickets_of, dirs_of}
+use Rattle.store_model.specs.Held.{HoldsAsState, HasHandles, ticket_in}
+use Rattle.store_model.specs.Lanes.{StandOnce}
+use Rattle.store_model.proofs.LanesOnce.{stand_once}
 use Rattle.store_model.specs.Desk.{View, state_of, held_by, Does, Rests}
 use Rattle.store_model.proofs.Histories.{front_is_legal}
-use Rattle.store_model.proofs.HoldingParts.{has_lane, is_open_for}
-use Rattle.store_model.proofs.HoldingOnce.{HandlesApart}
-use Rattle.store_model.proofs.Holding.{holds_as_state, handles_apart}
+use Rattle.store_model.proofs.HoldingParts.{HoldsIn, lane_tickets, lane_dirs, has_lane, is_open_for}
+use Rattle.store_model.proofs.Holding.{holds_in, holds_as_state}
 use Rattle.store_model.proofs.HoldingThere.{handles_there}
 
 -- ---- the events of a lane
@@ -101,26 +102,31 @@ there_before-Does old new IsIts does =
 
 -- ---- the numbers of tickets and directories
 
-tickets_below : (lane next : ℕ) (h : Held) (s : State) → HandlesApart next s → HoldsAsState lane h s → All (λ (t : HeldTicket). t.number < next) h.tickets
-tickets_below lane next h s apart holds =
-    All-same (λ (t : HeldTicket). t.number < next) h.tickets (tickets_of lane s.arriving) holds.tickets
-    (All-map (λ (t : HeldTicket). t.number < next) ticket_in (filter (has_lane lane) s.arriving) (All-filter (has_lane lane) (λ (a : Arrival). a.ticket < next) s.arriving apart.tickets.below))
+before_event : (old new : View) (IsIts : ℕ → Event → Type 0) (does : Does old new IsIts) → HoldsIn old.lane (held_by old) (after old.origin (old.seen ++ does.others))
+before_event old new IsIts does =
+    subst (λ (es : List Numbered). HoldsIn old.lane (held es) (after old.origin (old.seen ++ does.others))) (sym (mine_before-Does old new IsIts does))
+    (holds_in old.origin (old.seen ++ does.others) old.lane (legal_before-Does old new IsIts does))
+
+tickets_below : (lane next : ℕ) (h : Held) (s : State) → StandOnce s next → HoldsIn lane h s → All (λ (t : HeldTicket). t.number < next) h.tickets
+tickets_below lane next h s once holds =
+    All-same (λ (t : HeldTicket). t.number < next) h.tickets (lane_tickets lane s.arriving) holds.tickets
+    (All-map (λ (t : HeldTicket). t.number < next) ticket_in (filter (has_lane lane) s.arriving) (All-filter (has_lane lane) (λ (a : Arrival). a.ticket < next) s.arriving once.tickets.before))
 
 -- each ticket that the lane holds has a number below that of its next event
 pub tickets_before-Does : (old new : View) (IsIts : ℕ → Event → Type 0) (does : Does old new IsIts)
     → All (λ (t : HeldTicket). t.number < length (old.seen ++ does.others) + 1) (held_by old).tickets
 tickets_before-Does old new IsIts does =
     tickets_below old.lane (length (old.seen ++ does.others) + 1) (held_by old) (after old.origin (old.seen ++ does.others))
-    (handles_apart old.origin (old.seen ++ does.others) (legal_before-Does old new IsIts does)) (holds_before-Does old new IsIts does)
+    (stand_once old.origin (old.seen ++ does.others) (legal_before-Does old new IsIts does)) (before_event old new IsIts does)
 
-dirs_below : (lane next : ℕ) (h : Held) (s : State) → HandlesApart next s → HoldsAsState lane h s → All (λ (d : DirEntry). d.number < next) h.dirs
-dirs_below lane next h s apart holds =
-    All-same (λ (d : DirEntry). d.number < next) h.dirs (dirs_of lane s.dirs) holds.dirs
-    (All-filter (is_open_for lane) (λ (d : DirEntry). d.number < next) s.dirs apart.dirs.below)
+dirs_below : (lane next : ℕ) (h : Held) (s : State) → StandOnce s next → HoldsIn lane h s → All (λ (d : DirEntry). d.number < next) h.dirs
+dirs_below lane next h s once holds =
+    All-same (λ (d : DirEntry). d.number < next) h.dirs (lane_dirs lane s.dirs) holds.dirs
+    (All-filter (is_open_for lane) (λ (d : DirEntry). d.number < next) s.dirs once.dirs.before)
 
 -- and so has each directory
 pub dirs_before-Does : (old new : View) (IsIts : ℕ → Event → Type 0) (does : Does old new IsIts)
     → All (λ (d : DirEntry). d.number < length (old.seen ++ does.others) + 1) (held_by old).dirs
 dirs_before-Does old new IsIts does =
     dirs_below old.lane (length (old.seen ++ does.others) + 1) (held_by old) (after old.origin (old.seen ++ does.others))
-    (handles_apart old.origin (old.seen ++ does.others) (legal_before-Does old new IsIts does)) (holds_before-Does old new IsIts does)
+    (stand_once old.origin (old.seen ++ does.others) (legal_before-Does old new IsIts does)) (before_event old new IsIts does)

@@ -1,10 +1,10 @@
 -- What a lane holds, as the state has it.
-use Rattle.std.specs.Prelude.{◌≡◌, ℕ, ◌==◌, false, List, map, filter, Option, Some, None, IsSomeAnd, if◌then◌else◌}
-use Rattle.std.specs.Option.{option_to_list}
+use Rattle.std.specs.Prelude.{◌≡◌, ℕ, false, map, Some, None, IsSomeAnd}
+use Rattle.std.specs.Option.{option_map, option_to_list}
 use Rattle.fetch_queue.specs.declared.queue.ClaimEntry.{ClaimEntry}
-use Rattle.open_tracker.specs.declared.dirs.DirEntry.{DirEntry}
 use Rattle.open_tracker.specs.Directories.{root_of}
 use Rattle.store_model.specs.State.{State, Arrival, Phase, Stage, claim_of, holds_claim, arrival_of, IsStageOf}
+use Rattle.store_model.specs.Lanes.{claims_of, tickets_of, dirs_of, stage_of}
 use Rattle.store_model.specs.Holding.{HeldTicket, HeldClaim, Held, ticket_with}
 
 -- the ticket of a package that arrives
@@ -14,26 +14,13 @@ ticket_in arrival = record { number = arrival.ticket; path = arrival.path; root 
 abbrev pub claim_in : ClaimEntry → HeldClaim
 claim_in claim = record { root = claim.root; len = claim.len }
 
-abbrev pub tickets_of : ℕ → List Arrival → List HeldTicket
-tickets_of lane arriving = map ticket_in (filter (λ (arrival : Arrival). arrival.lane == lane) arriving)
-
-abbrev pub claims_of : ℕ → List ClaimEntry → List HeldClaim
-claims_of lane claims = map claim_in (filter (λ (claim : ClaimEntry). claim.lane == lane) claims)
-
-abbrev pub dirs_of : ℕ → List DirEntry → List DirEntry
-dirs_of lane dirs = filter (λ (dir : DirEntry). dir.lane == lane) dirs
-
-abbrev pub phase_of : ℕ → Option Stage → Option Phase
-phase_of lane None = None
-phase_of lane (Some stage) = if stage.lane == lane then Some stage.phase else None
-
 -- The lane holds its tickets and its directories of the state, in their order, its one claim if it has
 -- one, and the update if that is its own.
 pub record HoldsAsState (lane : ℕ) (h : Held) (s : State) : Type 0 where
-  pub tickets : h.tickets ≡ tickets_of lane s.arriving
-  pub claim : option_to_list h.claim ≡ claims_of lane s.claims
-  pub dirs : h.dirs ≡ dirs_of lane s.dirs
-  pub stage : h.stage ≡ phase_of lane s.stage
+  pub tickets : h.tickets ≡ map ticket_in (tickets_of lane s)
+  pub claim : option_to_list h.claim ≡ map claim_in (claims_of lane s)
+  pub dirs : h.dirs ≡ dirs_of lane s
+  pub stage : h.stage ≡ option_map (λ (stage : Stage). stage.phase) (stage_of lane s)
 
 -- ---- what the handles of a lane are in the state
 

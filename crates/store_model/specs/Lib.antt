@@ -12,7 +12,6 @@ pub mod Holding
 pub mod Replies
 pub mod Desk
 pub mod Calls
+pub mod Lanes
 pub mod Held
 pub mod HeldAfter
-pub mod Once
-pub mod Lanes

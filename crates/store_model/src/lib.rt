@@ -22,7 +22,7 @@ pub use ends::{
     ReadEnd, RetainEnd, StageEnd, WantEnd,
 };
 pub use events::{Act, CallName, Event, Looked, LookedAt};
-pub use holding_laws::{handles_stand_once, lanes_hold_what_the_state_has};
+pub use holding_laws::lanes_hold_what_the_state_has;
 pub use lane_laws::{
     broken_stays, claims_are_granted_once, collections_remove_the_rest,
     lanes_leave_each_other_alone, lanes_wait_where_it_is_quiet, marks_come_from_ends,
