@@ -21,7 +21,8 @@ use Rattle.store_model.specs.HeldAfter.{held_after_begin, held_after_want}
 use Rattle.store_model.specs.Desk.{View, held_by, Does}
 use Rattle.store_model.specs.Replies.{IsBegun, IsWanted, IsOpened, IsGivenUp}
 use Rattle.store_model.specs.Calls.{HoldsTicket, Begins, Wants, Opens}
-use Rattle.store_model.proofs.HoldingLists.{some_and, find_last, find_first, find_same}
+use Rattle.store_model.proofs.HoldingLists.{some_and, find_last, find_first}
+use Rattle.store_model.proofs.LanesLists.{find_kept}
 use Rattle.store_model.proofs.HoldingThere.{in_some}
 use Rattle.store_model.proofs.Views.{tickets_before-Does, dirs_before-Does}
 use Rattle.store_model.proofs.CallsHeld.{begun, wanted, given_up, opened}
@@ -72,7 +73,7 @@ without_other : (number other : ℕ) (root : Root) (tickets : List HeldTicket) �
     → IsSomeAnd (ticket_with (without_number tickets other) number) (IsHeldTicket root)
 without_other number other root tickets ne holds =
     subst (λ (o : Option HeldTicket). IsSomeAnd o (IsHeldTicket root))
-    (sym (find_same (has_number number) (λ (t : HeldTicket). not (has_number other t))
+    (sym (find_kept (has_number number) (λ (t : HeldTicket). not (has_number other t))
     (λ t is. not_from_false _ (ne_eqb t.number other (λ same. ne (sym (eqb-true t.number number is) ∙ same)))) tickets))
     holds
 

@@ -1,11 +1,10 @@
--- Lists of which a part is kept, lists of elements that stand apart, and what is found in them.
-use Rattle.std.proofs.Common.{inl, inr, ◌≡◌, Bool, true, false, List, [], ◌∷◌, ◌++◌, map, Option, Some, None, All, refl, sym, ap, subst, ◌∙◌}
+-- Lists of which a part is kept or changed, and what is found in them.
+use Rattle.std.proofs.Common.{inl, inr, ◌≡◌, Bool, true, false, List, [], ◌∷◌, ◌++◌, map, Option, Some, None, All, refl, ap, ◌∙◌}
 use Rattle.std.specs.Prelude.{find, filter, IsSomeAnd}
 use Rattle.std.specs.List.{list_any}
 use Rattle.std.specs.Option.{option_map, option_to_list}
 use Rattle.std.proofs.lemmas.Bool.{cases_Bool, or_parts, or_from}
 use Rattle.std.proofs.lemmas.List.Elements.{All-head, All-tail, filter-append}
-use Rattle.std.proofs.lemmas.List.{append-nil}
 
 -- ---- filters
 
@@ -34,9 +33,6 @@ filter-map f q (x ∷ xs) =
 pub filter_in : {X : Type 0} (p : X → Bool) (xs : List X) (x : X) → p x ≡ true → filter p (xs ++ x ∷ []) ≡ filter p xs ++ x ∷ []
 filter_in p xs x is = filter-append p xs (x ∷ []) ∙ rw is refl
 
-pub filter_out : {X : Type 0} (p : X → Bool) (xs : List X) (x : X) → p x ≡ false → filter p (xs ++ x ∷ []) ≡ filter p xs
-filter_out p xs x isnt = filter-append p xs (x ∷ []) ∙ rw isnt (append-nil (filter p xs))
-
 pub filter_none : {X : Type 0} (p : X → Bool) (xs : List X) → list_any p xs ≡ false → filter p xs ≡ []
 filter_none p [] none = refl
 filter_none p (x ∷ xs) none =
@@ -60,31 +56,6 @@ filter_changed p g same (x ∷ xs) =
     ]
 
 -- ---- what is found
-
-pub found_passes : {X : Type 0} (p : X → Bool) (xs : List X) (x : X) → find p xs ≡ Some x → p x ≡ true
-found_passes p [] x found = absurd (cc found)
-found_passes p (y ∷ xs) x found =
-    elim (cases_Bool (p y)) [
-      | inl holds ↦
-          let here : Some y ≡ Some x = rw holds at found in
-          let same : y ≡ x = cc here in
-          subst (λ z. p z ≡ true) same holds
-      | inr lacks ↦ found_passes p xs x (rw lacks at found)
-    ]
-
-pub find_kept : {X : Type 0} (p q : X → Bool) (xs : List X) (x : X) → find p xs ≡ Some x → q x ≡ true → find p (filter q xs) ≡ Some x
-find_kept p q [] x found stays = absurd (cc found)
-find_kept p q (y ∷ xs) x found stays =
-    elim (cases_Bool (p y)) [
-      | inl holds ↦
-          let here : Some y ≡ Some x = rw holds at found in
-          let same : y ≡ x = cc here in
-          let kept : q y ≡ true = subst (λ z. q z ≡ true) (sym same) stays in
-          rw (kept, holds) here
-      | inr lacks ↦
-          let rest : find p (filter q xs) ≡ Some x = find_kept p q xs x (rw lacks at found) stays in
-          elim (cases_Bool (q y)) [ inl kept ↦ rw (kept, lacks) rest | inr goes ↦ rw goes rest ]
-    ]
 
 pub find-map : {X Y : Type 0} (f : X → Y) (p : Y → Bool) (xs : List X) → find p (map f xs) ≡ option_map f (find (λ x. p (f x)) xs)
 find-map f p [] = refl
@@ -110,28 +81,7 @@ found_alone f p (y ∷ []) o x few found =
 found_alone f p (y ∷ z ∷ xs) None x few found = absurd (cc few)
 found_alone f p (y ∷ z ∷ xs) (Some w) x few found = absurd (cc few)
 
--- ---- what is found among those that are kept
-
--- what holds of all holds of the one that is found
-pub found_has : {X : Type 0} (P : X → Type 0) (p : X → Bool) (xs : List X) (x : X) → All P xs → find p xs ≡ Some x → P x
-found_has P p [] x all found = absurd (cc found)
-found_has P p (y ∷ xs) x all found =
-    elim (cases_Bool (p y)) [
-      | inl holds ↦
-          let here : Some y ≡ Some x = rw holds at found in
-          let same : y ≡ x = cc here in
-          subst P same (All-head P y xs all)
-      | inr lacks ↦ found_has P p xs x (All-tail P y xs all) (rw lacks at found)
-    ]
-
--- where all that pass are kept, the same is found
-pub find_same : {X : Type 0} (p q : X → Bool) → ((x : X) → p x ≡ true → q x ≡ true) → (xs : List X) → find p (filter q xs) ≡ find p xs
-find_same p q h [] = refl
-find_same p q h (x ∷ xs) =
-    elim (cases_Bool (p x)) [
-      | inl holds ↦ rw (h x holds, holds) refl
-      | inr lacks ↦ elim (cases_Bool (q x)) [ inl stays ↦ rw (stays, lacks) (find_same p q h xs) | inr goes ↦ rw (goes, lacks) (find_same p q h xs) ]
-    ]
+-- ---- few elements
 
 pub none_kept : {X : Type 0} (p : X → Bool) (xs : List X) → filter p xs ≡ [] → list_any p xs ≡ false
 none_kept p [] none = refl

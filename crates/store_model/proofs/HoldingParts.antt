@@ -18,7 +18,8 @@ use Rattle.store_model.specs.Acts.Marking.{marked}
 use Rattle.store_model.specs.Holding.{HeldTicket, HeldClaim, Held, without_number, ticket_with, with_len}
 use Rattle.store_model.specs.Held.{HoldsAsState, ticket_in, claim_in}
 use Rattle.store_model.specs.Lanes.{HoldsSame, unmarked, if_of}
-use Rattle.store_model.proofs.HoldingLists.{filter_swap, filter-map, filter_in, filter_none, map_same, filter_changed, found_passes, find_kept, find-map, some_and, found_alone}
+use Rattle.store_model.proofs.HoldingLists.{filter_swap, filter-map, filter_in, filter_none, map_same, filter_changed, find-map, some_and, found_alone}
+use Rattle.store_model.proofs.LanesLists.{found_passes, found_mine}
 
 -- ---- what a lane holds, of the lists of a state
 
@@ -91,7 +92,7 @@ pub ticket_found : (lane number : ℕ) (arriving : List Arrival) (a : Arrival) �
     → ticket_with (lane_tickets lane arriving) number ≡ Some (ticket_in a)
 ticket_found lane number arriving a found own =
     find-map ticket_in (λ (t : HeldTicket). t.number == number) (filter (has_lane lane) arriving) ∙ ap (option_map ticket_in)
-    (find_kept (has_number number) (has_lane lane) arriving a found (same_lane a.lane lane own))
+    (found_mine (has_number number) (has_lane lane) arriving a found (same_lane a.lane lane own))
 
 pub marked_tickets : (lane : ℕ) (books : Books) (root : Root) (end : FetchEnd) (arriving : List Arrival)
     → lane_tickets lane (map (marked books root end) arriving) ≡ lane_tickets lane arriving
@@ -120,7 +121,7 @@ alone : (lane : ℕ) (claims : List ClaimEntry) (root : Root) (o : Option HeldCl
     → filter (is_lanes lane) claims ≡ c ∷ []
 alone lane claims root o c few found own =
     found_alone claim_in (is_for root) (filter (is_lanes lane) claims) o c few
-    (find_kept (is_for root) (is_lanes lane) claims c found (same_lane c.lane lane own))
+    (found_mine (is_for root) (is_lanes lane) claims c found (same_lane c.lane lane own))
 
 pub unclaimed_own : (lane : ℕ) (claims : List ClaimEntry) (root : Root) (o : Option HeldClaim) → option_to_list o ≡ lane_claims lane claims → IsSomeAnd (claim_of claims root) (λ (c : ClaimEntry). c.lane ≡ lane)
     → lane_claims lane (without_claim claims root) ≡ []

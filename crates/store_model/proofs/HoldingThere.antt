@@ -16,10 +16,10 @@ use Rattle.store_model.specs.History.{Origin, IsLegal, after, of_lane}
 use Rattle.store_model.specs.Holding.{HeldTicket, HeldClaim, Held, ticket_with, held}
 use Rattle.store_model.specs.Held.{HasHandles, IsTicketIn, ticket_in, claim_in}
 use Rattle.store_model.specs.Lanes.{StandOnce}
-use Rattle.store_model.proofs.LanesLists.{found_whole}
+use Rattle.store_model.proofs.LanesLists.{find_kept, found_all, found_whole}
 use Rattle.store_model.proofs.LanesOnce.{stand_once}
 use Rattle.store_model.proofs.LanesApart.{tickets_apart, claims_apart}
-use Rattle.store_model.proofs.HoldingLists.{find-map, found_has, find_same, none_kept, map_none, map_one, mapped}
+use Rattle.store_model.proofs.HoldingLists.{find-map, none_kept, map_none, map_one, mapped}
 use Rattle.store_model.proofs.HoldingParts.{HoldsIn, lane_tickets, lane_claims, lane_phase, has_lane, has_number, is_lanes, is_for, is_open_for}
 use Rattle.store_model.proofs.Holding.{holds_in}
 
@@ -31,7 +31,7 @@ ticket_there : (lane number : ℕ) (arriving : List Arrival) (ticket : HeldTicke
 ticket_there lane number arriving ticket apart is =
     let found = mapped ticket_in (find (has_number number) (filter (has_lane lane) arriving)) ticket
     (sym (find-map ticket_in (λ (t : HeldTicket). t.number == number) (filter (has_lane lane) arriving)) ∙ is) in
-    let own = found_has (λ (a : Arrival). has_lane lane a ≡ true) (has_number number) (filter (has_lane lane) arriving) found.0 (filter_passes (has_lane lane) arriving) found.1 in
+    let own = found_all (has_number number) (λ (a : Arrival). has_lane lane a ≡ true) (filter (has_lane lane) arriving) found.0 found.1 (filter_passes (has_lane lane) arriving) in
     in_some (arrival_of arriving number) (IsTicketIn lane ticket) found.0
     (found_whole (has_number number) (has_lane lane) (λ (a b : Arrival). a.ticket ≢ b.ticket) (tickets_apart number) arriving apart found.0 found.1)
     (record { lane = eqb-true found.0.lane lane own; same = found.2 })
@@ -44,7 +44,7 @@ claim_there lane claims claim apart few =
     let root : claim.root ≡ entry.root = ap (λ (c : HeldClaim). c.root) one.2 in
     let found : find (is_for claim.root) (filter (is_lanes lane) claims) ≡ Some entry =
     ap (find (is_for claim.root)) one.1 ∙ ap (λ (test : Bool). cond test (Some entry) None) (root_eq-same entry.root claim.root (sym root)) in
-    let own = found_has (λ (c : ClaimEntry). is_lanes lane c ≡ true) (is_for claim.root) (filter (is_lanes lane) claims) entry (filter_passes (is_lanes lane) claims) found in
+    let own = found_all (is_for claim.root) (λ (c : ClaimEntry). is_lanes lane c ≡ true) (filter (is_lanes lane) claims) entry found (filter_passes (is_lanes lane) claims) in
     let there : claim_of claims claim.root ≡ Some entry =
     found_whole (is_for claim.root) (is_lanes lane) (λ (a b : ClaimEntry). a.root ≢ b.root) (claims_apart claim.root) claims apart entry found in
     there ∙ ap (λ (r : Root). Some (as_entry r entry.lane entry.len)) (sym root) ∙ ap (λ (l : ℕ). Some (as_entry claim.root l entry.len)) (eqb-true entry.lane lane own) ∙
@@ -58,7 +58,7 @@ free_there lane claims few = none_kept (is_lanes lane) claims (map_none claim_in
 dir_there : (lane dir : ℕ) (dirs : List DirEntry) → root_of (filter (is_open_for lane) dirs) dir lane ≡ root_of dirs dir lane
 dir_there lane dir dirs =
     ap (option_map (λ (d : DirEntry). d.root))
-    (find_same (λ (d : DirEntry). is_of d dir lane) (is_open_for lane) (λ d is. (and_parts (d.number == dir) (d.lane == lane) is).1) dirs)
+    (find_kept (λ (d : DirEntry). is_of d dir lane) (is_open_for lane) (λ d is. (and_parts (d.number == dir) (d.lane == lane) is).1) dirs)
 
 stage_there : (lane : ℕ) (stage : Option Stage) (phase : Phase) → lane_phase lane stage ≡ Some phase → stage ≡ Some (record { lane = lane; phase = phase })
 stage_there lane None phase is = absurd (cc is)
