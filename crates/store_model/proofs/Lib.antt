@@ -18,3 +18,4 @@ pub mod LanesApart
 pub mod LanesKept
 pub mod LanesQuiet
 pub mod LanesDue
+pub mod NoAnswer

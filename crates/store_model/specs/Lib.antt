@@ -15,3 +15,4 @@ pub mod Calls
 pub mod Lanes
 pub mod Held
 pub mod HeldAfter
+pub mod Examples

@@ -7,10 +7,12 @@ mod call_laws;
 mod desk;
 mod ends;
 mod events;
+mod examples;
 mod holding_laws;
 mod lane_laws;
 mod laws;
 mod replies;
+mod waiting;
 
 pub use call_laws::{
     calls_change_directories_and_stages, calls_change_tickets_and_claims, calls_give_handles,
@@ -22,6 +24,11 @@ pub use ends::{
     ReadEnd, RetainEnd, StageEnd, WantEnd,
 };
 pub use events::{Act, CallName, Event, Looked, LookedAt};
+pub use examples::{
+    examples_of_a_failed_write, examples_of_a_long_package, examples_of_boots,
+    examples_of_collections, examples_of_directories, examples_of_judgements, examples_of_recovery,
+    examples_of_room, examples_of_updates, examples_of_waiting,
+};
 pub use holding_laws::lanes_hold_what_the_state_has;
 pub use lane_laws::{
     broken_stays, claims_are_granted_once, collections_remove_the_rest,
@@ -34,3 +41,4 @@ pub use replies::{
     Dir, LandReply, OpenReply, PutReply, ReadReply, RejectReply, RetainReply, RoomReply, SealReply,
     StageReply, Ticket, WantReply,
 };
+pub use waiting::quiet_packages_have_no_answer;
