@@ -1,5 +1,15 @@
 pub mod Histories
 pub mod Knowing
+pub mod HoldingLists
+pub mod HoldingParts
+pub mod HoldingOwn
+pub mod Holding
+pub mod HoldingThere
+pub mod Calls
+pub mod Views
+pub mod CallsHeld
+pub mod CallsHandles
+pub mod CallsRest
 pub mod LanesLasting
 mod LanesLists
 pub mod LanesMarks

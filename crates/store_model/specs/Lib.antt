@@ -13,4 +13,6 @@ pub mod Replies
 pub mod Desk
 pub mod Calls
 pub mod Lanes
+pub mod Held
+pub mod HeldAfter
 pub mod Examples

@@ -3,15 +3,21 @@
 //! in words.
 #![tactic(auto)]
 
+mod call_laws;
 mod desk;
 mod ends;
 mod events;
 mod examples;
+mod holding_laws;
 mod lane_laws;
 mod laws;
 mod replies;
 mod waiting;
 
+pub use call_laws::{
+    calls_change_directories_and_stages, calls_change_tickets_and_claims, calls_give_handles,
+    other_calls_keep_what_is_held,
+};
 pub use desk::{Desk, RETAIN_LIMIT};
 pub use ends::{
     ActivateEnd, BeginEnd, Cause, CheckEnd, CopyEnd, Difference, Miss, PIECE_LIMIT, READ_LIMIT,
@@ -23,6 +29,7 @@ pub use examples::{
     examples_of_collections, examples_of_directories, examples_of_judgements, examples_of_recovery,
     examples_of_room, examples_of_updates, examples_of_waiting,
 };
+pub use holding_laws::lanes_hold_what_the_state_has;
 pub use lane_laws::{
     broken_stays, claims_are_granted_once, collections_remove_the_rest,
     collections_spare_what_is_held, lanes_leave_each_other_alone, lanes_wait_where_it_is_quiet,
