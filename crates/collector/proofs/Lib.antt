@@ -1,0 +1,3 @@
+pub mod Tallies
+mod Maps
+mod NameLists
