@@ -1,0 +1,15 @@
+pub mod PagesAs
+pub mod Parts
+pub mod RowText
+pub mod ReadSteps
+pub mod Listing
+pub mod TableLemmas
+pub mod Tables
+pub mod SwitchSteps
+pub mod TableReads
+pub mod EmptyTable
+pub mod IndexLemmas
+pub mod WalkLemmas
+pub mod LayLemmas
+pub mod JudgeLemmas
+pub mod CommitLemmas

@@ -1,0 +1,31 @@
+use Rattle.std.proofs.Common.{◌+◌, ◌∙◌, ap, inl, inr, arith}
+use Rattle.disk_model.specs.Past.{Page, zero_page, with_act}
+use Rattle.disk_model.specs.declared.act.DiskAct.TheVariants.{Wrote}
+use Rattle.disk_model.specs.Images.{IsInRow}
+use Rattle.disk_model.proofs.Regions.{writes_write}
+use Rattle.disk_model.proofs.ManyPages.{all_written_more}
+use Rattle.node_table.proofs.copy.write_zeros.Goals as goal
+
+pub returns-in_err-write-clause-only : goal.returns-in_err-write-clause-only
+returns-in_err-write-clause-only g c =
+    let disk = g.D.Disk in
+    writes_write (IsInRow c.args.first c.args.count) (c.args.first + c.loop-j.j) c.zero_page-page.result (disk.past c.args.disk.now) (disk.past c.loop-j.disk) (disk.past c.write.new.self)
+    (record { from = omega arith; below = omega (arith, c.loop-j-test.true) }) (inr c.in_err-write.ensures.failed) c.loop-j.invariant.only
+
+pub loop-j-preserved : goal.loop-j-preserved
+loop-j-preserved g c =
+    let disk = g.D.Disk in
+    let inv = c.loop-j.invariant in
+    let j = c.loop-j.j in
+    let step = c.write.ensures in
+    let wrote = c.in_ok-write.ensures.wrote in
+    record {
+      written = all_written_more (λ i. c.args.first + i) (λ _. zero_page) j (disk.past c.loop-j.disk) (disk.past c.write.new.self) (λ i below e. omega (arith, e, below)) (wrote ∙ ap (λ (page : Page). with_act (disk.past c.loop-j.disk) (Wrote (c.args.first + j) page)) c.zero_page-page.ensures) inv.written;
+      only = writes_write (IsInRow c.args.first c.args.count) (c.args.first + j) c.zero_page-page.result (disk.past c.args.disk.now) (disk.past c.loop-j.disk) (disk.past c.write.new.self)
+          (record { from = omega arith; below = omega (arith, c.loop-j-test.true) }) (inl wrote) inv.only;
+      pages_stay = step.pages_stay ∙ inv.pages_stay;
+      tie_stays = step.tie_stays ∙ inv.tie_stays;
+      reads_stay = step.reads_stay ∙ inv.reads_stay;
+      faults_never_fall = omega (arith, step.faults_never_fall, inv.faults_never_fall);
+      told = step.told;
+    }
