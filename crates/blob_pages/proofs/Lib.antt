@@ -1,0 +1,6 @@
+pub mod PageBytes
+pub mod Passing
+pub mod Adding
+pub mod Writing
+pub mod Reading
+pub mod ImageBytes
