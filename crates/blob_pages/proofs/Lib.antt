@@ -4,3 +4,4 @@ pub mod Adding
 pub mod Writing
 pub mod Reading
 pub mod ImageBytes
+pub mod Parts
