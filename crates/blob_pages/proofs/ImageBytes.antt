@@ -1,15 +1,15 @@
 -- The bytes of a blob in an image: where its pages are settled, and what was read of them.
-use Rattle.std.proofs.Common.{◌≡◌, ◌≢◌, ℕ, suc, ◌+◌, ◌-◌, ◌*◌, ◌<◌, ◌≤◌, List, [], ◌∷◌, ◌++◌, length, take, drop, replicate, get_or, Option, Some, None, IfSome, refl, sym, ◌∙◌, ap, arith, append_assoc}
+use Rattle.std.proofs.Common.{◌≡◌, ◌≢◌, ℕ, suc, ◌+◌, ◌-◌, ◌*◌, ◌<◌, ◌≤◌, List, [], ◌∷◌, ◌++◌, length, take, drop, replicate, get_or, set, get_or-set_other, Option, Some, None, IfSome, refl, sym, ◌∙◌, ap, arith, append_assoc}
 use Rattle.std.specs.List.{All, AllPairs, flat_map, range_with_len}
 use Rattle.std.proofs.lemmas.List.{take_at, take-append-drop, take-append-le, length-take-le, get_or-take}
 use Rattle.std.proofs.lemmas.List.Concat.{flat_map-append}
 use Rattle.disk_model.specs.Past.{Page, Pages, page_at, Past, IsPast}
-use Rattle.disk_model.specs.Images.{EachImage}
+use Rattle.disk_model.specs.Images.{EachImage, LastsOver}
 use Rattle.disk_model.proofs.Moments.{each_weaker}
 use Rattle.disk_model.proofs.ManyPages.{each_settled}
 use Rattle.disk_model.proofs.ReadPages.{reads_anywhere}
 use Rattle.blob_pages.specs.Pages.{page_of, page_count}
-use Rattle.blob_pages.specs.Written.{place, AreSettled}
+use Rattle.blob_pages.specs.Written.{place, IsOn, AreSettled}
 use Rattle.blob_pages.specs.Chains.{bytes_in, joined, AreRead}
 use Rattle.blob_pages.proofs.PageBytes.{flat_map-page_of}
 
@@ -55,3 +55,15 @@ read_bytes start chain blob bytes len count (Some past) within range apart fits 
     flat_map-from (λ (page : Page). page) (page_at read.pages) [] read.pages 0 (λ i below. ap (page_at read.pages) (omega arith)) ∙ ap (λ (k : ℕ). flat_map (page_at read.pages) (range_with_len 0 k)) read.count in
     let have = front_bytes start chain (page_at read.pages) n image within found.2.1 ∙ ap (λ (l : List ℕ). l ++ behind) (sym pages) in
     read.are ∙ sym (take-append-le len (joined read.pages) behind (omega (arith, read.whole))) ∙ ap (take len) (sym have) ∙ found.2.0
+
+-- the bytes of a blob in an image depend on the pages of its chain alone
+same_pages : (f g : ℕ → List ℕ) (chain : List ℕ) → ((i : ℕ) → i < length chain → f (get_or chain i 0) ≡ g (get_or chain i 0)) → flat_map f chain ≡ flat_map g chain
+same_pages f g [] same = refl
+same_pages f g (p ∷ chain) same =
+    ap (λ (l : List ℕ). l ++ flat_map f chain) (same 0 (omega arith))
+    ∙ ap (λ (l : List ℕ). g p ++ l) (same_pages f g chain (λ i below. same (suc i) (omega (arith, below))))
+
+pub bytes_lasts : (region : ℕ → Type 0) (start : ℕ) (chain : List ℕ) (len : ℕ) (blob : List ℕ) → ((n : ℕ) → region n → IsOn start chain n → ⊥) → LastsOver region (λ image. bytes_in start chain len image ≡ blob)
+bytes_lasts region start chain len blob apart = λ image n bytes within below are.
+    ap (take len) (same_pages (λ (p : ℕ). page_at (set image n bytes) (start + p)) (λ (p : ℕ). page_at image (start + p)) chain
+    (λ i inside. get_or-set_other image n (start + get_or chain i 0) bytes [] (λ e. apart n within (i, inside, sym e)))) ∙ are

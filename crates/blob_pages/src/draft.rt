@@ -1,6 +1,6 @@
 //! The draft of a blob.
 
-ghost use Rattle.std.specs.Prelude.{◌≡◌, ◌+◌, ◌<◌, ◌≤◌, ◌↔◌, ℕ, List, [], ◌++◌, length, take, drop, vec_capacity, IsErr, IsSome, IfOk, IfErr, IfSome, OnOk, OnErr};
+ghost use Rattle.std.specs.Prelude.{◌≡◌, ◌+◌, ◌*◌, ◌<◌, ◌≤◌, ◌↔◌, ℕ, List, [], ◌++◌, length, take, drop, vec_capacity, IsErr, IsSome, IfOk, IfErr, IfSome, OnOk, OnErr};
 ghost use Rattle.std.specs.Option.{option_map};
 ghost use Rattle.pkg_merkle.specs.declared.hasher.TheConstants.{BYTES_LIMIT};
 
@@ -109,7 +109,10 @@ impl Draft {
 
     /// How many bytes came.
     pub fn have(&self) -> u64
-        ensures { result ≡ have self.now }
+        ensures count { result ≡ have self.now }
+        ensures parts { result ≡ PAGE_SIZE * self.now.pages + length self.now.rest }
+        ensures most { result ≤ self.now.len }
+        ensures limit { self.now.len ≤ BYTES_LIMIT }
     {
         (PAGE_SIZE * self.pages + (self.tail.len() - self.from)) as u64
     }

@@ -20,8 +20,7 @@ pub fn write_full<D: Disk>(
     chain: &[u32],
     draft: &mut Draft,
 ) -> Result<(), DiskFailed>
-    requires whole { PAGE_SIZE * draft.old.pages + length draft.old.rest
-        ≤ PAGE_SIZE * length chain.now }
+    requires whole { draft.old.len ≤ PAGE_SIZE * length chain.now }
     requires range { All (λ page. start + page < D.pages disk.old) chain.now }
     requires apart { AllPairs (λ a b. a ≢ b) chain.now }
     ensures open { OnOk result (HasNoFullPage draft.new) }
@@ -40,6 +39,7 @@ pub fn write_full<D: Disk>(
 {
     // so the numbers of its pages fit their type
     let _count = disk.pages();
+    let _have = draft.have();
     while let Some(page) = draft.full_page() {
         disk.write(start + chain[draft.pages() as usize], page)?;
         draft.pass_page();
