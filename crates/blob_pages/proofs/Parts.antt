@@ -1,5 +1,5 @@
 -- How a part of a blob is read page by page.
-use Rattle.std.proofs.Common.{◌≡◌, ℕ, zero, suc, ◌+◌, ◌-◌, ◌*◌, ◌/◌, ◌%◌, ◌<◌, ◌≤◌, min, List, [], ◌∷◌, ◌++◌, length, take, drop, get_or, Option, Some, None, IfSome, refl, sym, ◌∙◌, ap, subst, arith, length-append, length-drop, append_assoc}
+use Rattle.std.proofs.Common.{◌≡◌, ℕ, zero, suc, ◌+◌, ◌-◌, ◌*◌, ◌/◌, ◌%◌, ◌<◌, ◌≤◌, List, [], ◌∷◌, ◌++◌, length, take, drop, get_or, Option, Some, None, IfSome, refl, sym, ◌∙◌, ap, arith, length-append, length-drop, append_assoc}
 use Rattle.std.specs.List.{All, flat_map}
 use Rattle.std.proofs.lemmas.List.{drop-drop, drop_at, drop_more, drop-append-le, take-append-le, drop-take, take-take, length-take, length-take-le, take_at, take-append-drop}
 use Rattle.std.proofs.lemmas.List.Elements.{All-from_recursion}
@@ -7,7 +7,7 @@ use borrow.Rule.Slice.PartMut.{put_mid}
 use Rattle.disk_model.specs.Past.{Page, Pages, page_at, Past, IsPage, IsPast, state_of, MayRead}
 use Rattle.disk_model.specs.Images.{EachImage}
 use Rattle.disk_model.proofs.Moments.{read_image}
-use Rattle.disk_model.proofs.ReadPages.{each_are_pages, each_size, some_both}
+use Rattle.disk_model.proofs.ReadPages.{each_are_pages, each_size}
 use Rattle.blob_pages.specs.Chains.{bytes_in}
 
 -- the pages of a list from the k-th on

@@ -1,4 +1,4 @@
-use Rattle.std.proofs.Common.{◌≡◌, ℕ, ◌+◌, ◌-◌, ◌*◌, ◌/◌, ◌%◌, ◌<◌, ◌≤◌, ◌++◌, min, List, length, take, drop, get_or, Option, IfSome, sym, subst, ap, ◌∙◌, arith, length-drop}
+use Rattle.std.proofs.Common.{◌≡◌, ℕ, ◌+◌, ◌-◌, ◌/◌, ◌%◌, ◌<◌, ◌≤◌, ◌++◌, min, List, length, take, drop, get_or, Option, IfSome, sym, subst, ap, ◌∙◌, arith, length-drop}
 use Rattle.std.proofs.lemmas.List.{drop-drop, length-take}
 use Rattle.disk_model.specs.Past.{Past, state_of, MayRead}
 use Rattle.blob_pages.proofs.Parts.{bytes_read, piece_put, both_then, part_within}

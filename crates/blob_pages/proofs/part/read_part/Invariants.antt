@@ -1,4 +1,4 @@
-use Rattle.std.proofs.Common.{◌≡◌, ℕ, ◌+◌, ◌-◌, ◌≤◌, ◌++◌, List, length, take, drop, IfSome}
+use Rattle.std.proofs.Common.{◌≡◌, ℕ, ◌-◌, ◌≤◌, ◌++◌, List, take, drop, IfSome}
 use Rattle.disk_model.specs.Images.{EachImage}
 use Rattle.blob_pages.specs.Chains.{bytes_in}
 use Rattle.blob_pages.proofs.part.read_part.Given as goal
