@@ -1,0 +1,7 @@
+pub mod PageBytes
+pub mod Passing
+pub mod Adding
+pub mod Writing
+pub mod Reading
+pub mod ImageBytes
+pub mod Parts
