@@ -246,7 +246,8 @@ IsPartOf (Inner bytes) place part = part ≡ take (length part) (drop place byte
 IsPartOf file place part = Unit {0}
 
 -- The next part of the file came behind the bytes of the image, which then has so many.
-pub record CopiesPart (image : ImageKind) (file : Found) (len have : ℕ) (old new : Fillers) (before after : Kept) : Type 0 where
+pub record CopiesPart (image : ImageKind) (file : Found) (len have : ℕ) (old new : Fillers) (before after : Kept)
+    : Type 0 where
   pub part : List ℕ
   pub root : Root
   pub is_root : HasFileRoot file root
