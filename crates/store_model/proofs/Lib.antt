@@ -1,2 +1,6 @@
 pub mod Histories
 pub mod Knowing
+pub mod SoundRoom
+pub mod Frames
+pub mod SoundSteps
+pub mod Sound

@@ -12,3 +12,4 @@ pub mod Holding
 pub mod Replies
 pub mod Desk
 pub mod Calls
+pub mod Sound

@@ -8,6 +8,7 @@ mod ends;
 mod events;
 mod laws;
 mod replies;
+mod sound_laws;
 
 pub use desk::{Desk, RETAIN_LIMIT};
 pub use ends::{
@@ -21,3 +22,4 @@ pub use replies::{
     Dir, LandReply, OpenReply, PutReply, ReadReply, RejectReply, RetainReply, RoomReply, SealReply,
     StageReply, Ticket, WantReply,
 };
+pub use sound_laws::stock_and_claims_stay_in_room;

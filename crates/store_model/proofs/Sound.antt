@@ -1,0 +1,128 @@
+-- What each step keeps holds after each legal history.
+use Rattle.std.proofs.Common.{◌≡◌, ℕ, ◌+◌, Bool, true, false, List, [], ◌∷◌, length, Option, Some, None, refl, subst, ◌∙◌, arith, rules}
+use Rattle.std.specs.Prelude.{◌==◌}
+use Rattle.std.specs.List.{IsDistinct}
+use Rattle.std.proofs.lemmas.List.Elements.{All-nil}
+use Rattle.pkg_names.specs.Root.{root_eq}
+use Rattle.image_layout.specs.declared.geometry.Geometry.{Geometry}
+use Rattle.store_model.specs.declared.events.Event.{Event}
+use Rattle.store_model.specs.declared.events.Act.{Act}
+use Rattle.store_model.specs.declared.events.Act.TheVariants.{Put, Land, Copy, Seal}
+use Rattle.store_model.specs.State.{State, durable, claim_of}
+use Rattle.store_model.specs.Step.{IsActDue, IsActDueIf, MayWrite, IsDue, next, meant, step}
+use Rattle.store_model.specs.History.{Beginning, Origin, start, IsLegalFrom, IsLegal, after_from, after}
+use Rattle.store_model.specs.History.Beginning.{Lasted, Factory}
+use Rattle.store_model.specs.Sound.{IsStanding, IsWellFormed, IsInRoom, CanBegin}
+use Rattle.fetch_queue.specs.declared.FetchEnd.{FetchEnd}
+use Rattle.store_model.proofs.Frames.{keeps_next}
+use Rattle.store_model.proofs.SoundSteps.{InRoom, some_and, room_next, room_step}
+use Rattle.store_model.proofs.SoundRoom.{room_landed}
+
+-- what each step keeps
+Keeps : (State → Type 0) → Type 0
+Keeps P = (s : State) (number : ℕ) (e : Event) → IsDue s number e → P s → P (step s number e)
+
+pub holds_from : (P : State → Type 0) → ((s : State) (number : ℕ) (e : Event) → IsDue s number e → P s → P (step s number e))
+    → (s : State) (number : ℕ) (history : List Event) → P s → IsLegalFrom s number history → P (after_from s number history)
+holds_from P keeps s number [] h legal = h
+holds_from P keeps s number (e ∷ es) h legal =
+    holds_from P keeps (step s number e) (number + 1) es (keeps s number e legal.0 h) legal.1
+
+-- ---- the stock and the claims
+
+record InRoomOf (g : Geometry) (s : State) : Type 0 where
+  geometry : s.geometry ≡ g
+  room : InRoom s
+
+keeps_geometry : (s : State) (number : ℕ) (e : Event) → (step s number e).geometry ≡ s.geometry
+keeps_geometry s number e = search rules
+
+none_twice : {K : Type 0} (eq : K → K → Bool) → IsDistinct eq []
+unfolding IsDistinct
+none_twice eq = tt
+
+room_begins : (g : Geometry) (b : Beginning) → CanBegin g b → InRoom (start (record { geometry = g; beginning = b }))
+room_begins g (Lasted d) h =
+    let pages = h.pages in
+    let nodes = h.nodes in
+    record {
+      stored = h.roots;
+      claimed = none_twice root_eq;
+      lanes = none_twice ◌==◌;
+      missing = All-nil _;
+      lengths = h.lengths;
+      rooms = All-nil _;
+      pages = omega (arith, pages);
+      nodes = omega (arith, nodes);
+    }
+room_begins g Factory h = record {
+  stored = none_twice root_eq;
+  claimed = none_twice root_eq;
+  lanes = none_twice ◌==◌;
+  missing = All-nil _;
+  lengths = All-nil _;
+  rooms = All-nil _;
+  pages = omega arith;
+  nodes = omega arith;
+}
+
+geometry_begins : (g : Geometry) (b : Beginning) → (start (record { geometry = g; beginning = b })).geometry ≡ g
+geometry_begins g (Lasted d) = refl
+geometry_begins g Factory = refl
+
+room_after : (origin : Origin) (history : List Event) → IsWellFormed origin → IsLegal origin history → InRoomOf origin.geometry (after origin history)
+room_after origin history begins legal =
+    holds_from (InRoomOf origin.geometry)
+    (λ s number e due h. record { geometry = keeps_geometry s number e ∙ h.geometry; room = room_step s number e due h.room })
+    (start origin) 1 history
+    (record { geometry = geometry_begins origin.geometry origin.beginning; room = room_begins origin.geometry origin.beginning begins })
+    legal
+
+pub in_room : (origin : Origin) (history : List Event) → IsWellFormed origin → IsLegal origin history → IsInRoom origin.geometry (after origin history).stock (after origin history).claims
+in_room origin history begins legal =
+    let h = room_after origin history begins legal in
+    subst (λ (g : Geometry). IsInRoom g (after origin history).stock (after origin history).claims) h.geometry h.room
+
+standing_in : (g : Geometry) (s : State) → IsInRoom g s.stock s.claims → IsStanding g (durable s)
+standing_in g s h =
+    let pages = h.pages in
+    let nodes = h.nodes in
+    record {
+      roots = h.stored;
+      lengths = h.lengths;
+      pages = omega (arith, pages);
+      nodes = omega (arith, nodes);
+    }
+
+pub lasts_well : (origin : Origin) (history : List Event) → IsWellFormed origin → IsLegal origin history → IsStanding origin.geometry (durable (after origin history))
+lasts_well origin history begins legal = standing_in origin.geometry (after origin history) (in_room origin history begins legal)
+
+-- what a call meant whose write failed
+meant_next : (s : State) (number lane : ℕ) (act : Act) → IsActDue s lane act → InRoom s → IsStanding s.geometry (durable (next s number lane act))
+meant_next s number lane act due h =
+    subst (λ (g : Geometry). IsStanding g (durable (next s number lane act))) (keeps_next s number lane act).geometry
+    (standing_in (next s number lane act).geometry (next s number lane act) (room_next s number lane act due h))
+
+meant_in : (s : State) (number lane : ℕ) (act : Act) → MayWrite s number lane act → InRoom s → IsStanding s.geometry (meant s number lane act)
+meant_in s number lane (Put root reply) due h = standing_in s.geometry s h
+meant_in s number lane (Copy image dir file reply) due h = standing_in s.geometry s h
+meant_in s number lane (Seal sys reply) due h = standing_in s.geometry s h
+meant_in s number lane (Land root len None seen) due h =
+    let found = some_and (claim_of s.claims root) due.2 in
+    standing_in s.geometry (next s number lane (Land root len None seen)) (room_landed s.geometry s.stock s.claims root len found.0 h found.1 found.2.room)
+meant_in s number lane (Land root len (Some end) seen) due h = absurd (no_end due.0) where
+  no_end : ◌≡◌ {A = Option FetchEnd} (Some end) None → ⊥
+  no_end e = cc
+meant_in s number lane act due h = meant_next s number lane act due.0 h
+
+broken_due : (s : State) (number : ℕ) (e : Event) (broke : Bool) → broke ≡ true → IsActDueIf broke s number e.lane e.act → MayWrite s number e.lane e.act
+broken_due s number e true is due = due.0
+broken_due s number e false is due = absurd cc
+
+pub means_well : (origin : Origin) (history : List Event) (e : Event) → IsWellFormed origin → IsLegal origin history → IsDue (after origin history) (length history + 1) e → e.broke ≡ true
+    → IsStanding origin.geometry (meant (after origin history) (length history + 1) e.lane e.act)
+means_well origin history e begins legal due broke =
+    let s = after origin history in
+    let h = room_after origin history begins legal in
+    subst (λ (g : Geometry). IsStanding g (meant s (length history + 1) e.lane e.act)) h.geometry
+    (meant_in s (length history + 1) e.lane e.act (broken_due s (length history + 1) e e.broke broke due.due) h.room)

@@ -1,0 +1,104 @@
+-- What holds of the state after each history that is legal from a well-formed beginning.
+use Rattle.std.specs.Prelude.{◌≡◌, ℕ, ◌+◌, ◌≤◌, ◌==◌, true, false, List, All, length, map, filter, Some, is_some, IfSome, IsSomeAnd}
+use Rattle.std.specs.List.{IsDistinct}
+use Rattle.pkg_names.specs.declared.root.Root.{Root}
+use Rattle.pkg_names.specs.declared.pinned.Pinned.{Pinned}
+use Rattle.pkg_names.specs.Root.{root_eq}
+use Rattle.pkg_merkle.specs.declared.hasher.TheConstants.{BYTES_LIMIT}
+use Rattle.image_layout.specs.declared.geometry.Geometry.{Geometry}
+use Rattle.image_layout.specs.declared.Sys.{Sys}
+use Rattle.fetch_queue.specs.declared.queue.ClaimEntry.{ClaimEntry}
+use Rattle.open_tracker.specs.declared.dirs.DirEntry.{DirEntry}
+use Rattle.package_book.specs.Books.{Books, book_at}
+use Rattle.package_indexes.specs.Indexes.{root_at}
+use Rattle.system_lists.specs.Judging.{system_path}
+use Rattle.store_model.specs.State.{Stored, Standing, State, Phase, Stage, stock_roots, is_stored, has_root, sys_of, other_slot, is_successful, is_other_bootable, protected_in}
+use Rattle.store_model.specs.State.Phase.{Filling, Sealed, Done}
+use Rattle.store_model.specs.Packages.{stock_pages, claim_pages, is_complete}
+use Rattle.store_model.specs.Settling.{KnowsAll}
+use Rattle.store_model.specs.History.{Beginning, Origin}
+use Rattle.store_model.specs.History.Beginning.{Lasted, Factory}
+
+-- ---- beginnings
+
+-- A store can begin with this: no blob stands twice, none is too long, and pages and entries suffice.
+pub record IsStanding (g : Geometry) (d : Standing) : Type 0 where
+  pub roots : IsDistinct root_eq (stock_roots d.stock)
+  pub lengths : All (λ (blob : Stored). blob.len ≤ BYTES_LIMIT) d.stock
+  pub pages : stock_pages d.stock ≤ g.data_pages
+  pub nodes : length d.stock ≤ g.blobs
+
+abbrev pub CanBegin : Geometry → Beginning → Type 0
+CanBegin g (Lasted d) = IsStanding g d
+CanBegin g Factory = Unit {0}
+
+-- what lasted is well formed; a first image can always be made
+abbrev pub IsWellFormed : Origin → Type 0
+IsWellFormed origin = CanBegin origin.geometry origin.beginning
+
+-- ---- the stock and the claims
+
+abbrev pub claimed_roots : List ClaimEntry → List Root
+claimed_roots claims = map (λ (claim : ClaimEntry). claim.root) claims
+
+abbrev pub claiming_lanes : List ClaimEntry → List ℕ
+claiming_lanes claims = map (λ (claim : ClaimEntry). claim.lane) claims
+
+-- No blob is stored twice, or claimed twice, or claimed and stored. A lane has at most one claim. What is
+-- stored and what room was made for is short enough, and has its pages and its entries.
+pub record IsInRoom (g : Geometry) (stock : List Stored) (claims : List ClaimEntry) : Type 0 where
+  pub stored : IsDistinct root_eq (stock_roots stock)
+  pub claimed : IsDistinct root_eq (claimed_roots claims)
+  pub lanes : IsDistinct ◌==◌ (claiming_lanes claims)
+  pub missing : All (λ (claim : ClaimEntry). is_stored stock claim.root ≡ false) claims
+  pub lengths : All (λ (blob : Stored). blob.len ≤ BYTES_LIMIT) stock
+  pub rooms : All (λ (claim : ClaimEntry). IfSome claim.len (λ len. len ≤ BYTES_LIMIT)) claims
+  pub pages : stock_pages stock + claim_pages claims ≤ g.data_pages
+  pub nodes : length stock + length (filter (λ (claim : ClaimEntry). is_some claim.len) claims) ≤ g.blobs
+
+-- ---- books and packages
+
+-- the books know each of these packages that is stored, and no other
+pub record KnowsExactly (books : Books) (packages : List Root) (stock : List Stored) : Type 0 where
+  pub all : KnowsAll books packages stock
+  pub among : (root : Root) → is_some (book_at books root) ≡ true → has_root packages root ≡ true
+  pub there : (root : Root) → is_some (book_at books root) ≡ true → is_stored stock root ≡ true
+
+-- each package of the base, each active one and each open one is complete
+pub record AreComplete (s : State) : Type 0 where
+  pub base : All (λ (pair : Pinned). is_complete s pair.root ≡ true) s.base
+  pub active : All (λ (pair : Pinned). is_complete s pair.root ≡ true) s.active
+  pub dirs : All (λ (dir : DirEntry). is_complete s dir.root ≡ true) s.dirs
+
+-- ---- updates
+
+pub record IsKept (s : State) (pair : Pinned) : Type 0 where
+  pub retained : has_root s.retained pair.root ≡ true
+  pub complete : is_complete s pair.root ≡ true
+
+-- An update has activated the system with this base: the running slot has succeeded, and the other one
+-- has the system and can be booted. Its packages are retained and complete.
+pub record IsActivated (s : State) (base : List Pinned) : Type 0 where
+  pub running : is_successful s.abr s.running ≡ true
+  pub other : is_other_bootable s.abr s.running ≡ true
+  pub system : IsSomeAnd (sys_of s (other_slot s.running)) (λ (sys : Sys). root_at base system_path ≡ Some sys.system)
+  pub packages : All (IsKept s) base
+
+-- The other slot is being filled, or is sealed: the running one has succeeded, and the other can't be booted.
+pub record IsUnderWay (s : State) : Type 0 where
+  pub running : is_successful s.abr s.running ≡ true
+  pub other : is_other_bootable s.abr s.running ≡ false
+
+abbrev pub IsInPhase : State → Phase → Type 0
+IsInPhase s Filling = IsUnderWay s
+IsInPhase s (Sealed sys) = IsUnderWay s
+IsInPhase s Done = Unit {0}
+
+-- ---- all of it
+
+pub record IsSound (s : State) : Type 0 where
+  pub room : IsInRoom s.geometry s.stock s.claims
+  pub books : KnowsExactly s.books (protected_in s) s.stock
+  pub packages : AreComplete s
+  pub staged : IfSome s.staged (IsActivated s)
+  pub stage : IfSome s.stage (λ (stage : Stage). IsInPhase s stage.phase)

@@ -1,0 +1,20 @@
+//! What holds after each legal history, each the contract of a function that does nothing.
+
+ghost use Rattle.std.specs.Prelude.{◌≡◌, ℕ, ◌+◌, true, List, length};
+ghost use Rattle.store_model.specs.declared.events.Event.{Event as EventOf};
+ghost use Rattle.store_model.specs.State.{durable};
+ghost use Rattle.store_model.specs.Step.{IsDue, meant};
+ghost use Rattle.store_model.specs.History.{Origin, IsLegal, after};
+ghost use Rattle.store_model.specs.Sound.{IsWellFormed, IsInRoom, IsStanding};
+
+/// No blob is stored twice, claimed twice, or claimed and stored; a lane has one claim at most; and all
+/// that is stored or has room fits. So what lasts can begin again, also what a broken call meant.
+pub fn stock_and_claims_stay_in_room()
+    ensures room { (origin : Origin) (history : List EventOf) → IsWellFormed origin → IsLegal origin history
+        → IsInRoom origin.geometry (after origin history).stock (after origin history).claims }
+    ensures lasts { (origin : Origin) (history : List EventOf) → IsWellFormed origin → IsLegal origin history
+        → IsStanding origin.geometry (durable (after origin history)) }
+    ensures meant { (origin : Origin) (history : List EventOf) (e : EventOf) → IsWellFormed origin
+        → IsLegal origin history → IsDue (after origin history) (length history + 1) e → e.broke ≡ true
+        → IsStanding origin.geometry (meant (after origin history) (length history + 1) e.lane e.act) }
+{}
