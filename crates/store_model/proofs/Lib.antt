@@ -4,3 +4,6 @@ pub mod SoundRoom
 pub mod Frames
 pub mod SoundSteps
 pub mod Sound
+pub mod SoundBooks
+pub mod SoundSystems
+pub mod SoundPackages

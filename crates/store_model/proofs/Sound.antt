@@ -8,14 +8,16 @@ use Rattle.image_layout.specs.declared.geometry.Geometry.{Geometry}
 use Rattle.store_model.specs.declared.events.Event.{Event}
 use Rattle.store_model.specs.declared.events.Act.{Act}
 use Rattle.store_model.specs.declared.events.Act.TheVariants.{Put, Land, Copy, Seal}
-use Rattle.store_model.specs.State.{State, durable, claim_of}
+use Rattle.store_model.specs.State.{protected_in, State, durable, claim_of}
 use Rattle.store_model.specs.Step.{IsActDue, IsActDueIf, MayWrite, IsDue, next, meant, step}
 use Rattle.store_model.specs.History.{Beginning, Origin, start, IsLegalFrom, IsLegal, after_from, after}
 use Rattle.store_model.specs.History.Beginning.{Lasted, Factory}
-use Rattle.store_model.specs.Sound.{IsStanding, IsWellFormed, IsInRoom, CanBegin}
+use Rattle.store_model.specs.Sound.{KnowsExactly, AreComplete, IsStanding, IsWellFormed, IsInRoom, CanBegin}
 use Rattle.fetch_queue.specs.declared.FetchEnd.{FetchEnd}
 use Rattle.store_model.proofs.Frames.{keeps_next}
 use Rattle.store_model.proofs.SoundSteps.{InRoom, some_and, room_next, room_step}
+use Rattle.store_model.proofs.SoundBooks.{knows_exactly, knows_nothing}
+use Rattle.store_model.proofs.SoundPackages.{complete_step}
 use Rattle.store_model.proofs.SoundRoom.{room_landed}
 
 -- what each step keeps
@@ -126,3 +128,22 @@ means_well origin history e begins legal due broke =
     let h = room_after origin history begins legal in
     subst (λ (g : Geometry). IsStanding g (meant s (length history + 1) e.lane e.act)) h.geometry
     (meant_in s (length history + 1) e.lane e.act (broken_due s (length history + 1) e e.broke broke due.due) h.room)
+
+-- ---- the books and the packages
+
+books_begin : (g : Geometry) (b : Beginning) → KnowsExactly (start (record { geometry = g; beginning = b })).books (protected_in (start (record { geometry = g; beginning = b }))) (start (record { geometry = g; beginning = b })).stock
+books_begin g (Lasted d) = knows_nothing d.stock
+books_begin g Factory = knows_nothing []
+
+pub books_after : (origin : Origin) (history : List Event) → IsLegal origin history → KnowsExactly (after origin history).books (protected_in (after origin history)) (after origin history).stock
+books_after origin history legal =
+    holds_from (λ s. KnowsExactly s.books (protected_in s) s.stock) (λ s number e due h. knows_exactly s number e due)
+    (start origin) 1 history (books_begin origin.geometry origin.beginning) legal
+
+packages_begin : (g : Geometry) (b : Beginning) → AreComplete (start (record { geometry = g; beginning = b }))
+packages_begin g (Lasted d) = record { base = All-nil _; active = All-nil _; dirs = All-nil _ }
+packages_begin g Factory = record { base = All-nil _; active = All-nil _; dirs = All-nil _ }
+
+pub complete_after : (origin : Origin) (history : List Event) → IsLegal origin history → AreComplete (after origin history)
+complete_after origin history legal =
+    holds_from AreComplete complete_step (start origin) 1 history (packages_begin origin.geometry origin.beginning) legal

@@ -22,4 +22,6 @@ pub use replies::{
     Dir, LandReply, OpenReply, PutReply, ReadReply, RejectReply, RetainReply, RoomReply, SealReply,
     StageReply, Ticket, WantReply,
 };
-pub use sound_laws::stock_and_claims_stay_in_room;
+pub use sound_laws::{
+    books_know_what_is_protected, packages_stay_complete, stock_and_claims_stay_in_room,
+};

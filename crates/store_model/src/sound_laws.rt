@@ -2,10 +2,10 @@
 
 ghost use Rattle.std.specs.Prelude.{◌≡◌, ℕ, ◌+◌, true, List, length};
 ghost use Rattle.store_model.specs.declared.events.Event.{Event as EventOf};
-ghost use Rattle.store_model.specs.State.{durable};
+ghost use Rattle.store_model.specs.State.{durable, protected_in};
 ghost use Rattle.store_model.specs.Step.{IsDue, meant};
 ghost use Rattle.store_model.specs.History.{Origin, IsLegal, after};
-ghost use Rattle.store_model.specs.Sound.{IsWellFormed, IsInRoom, IsStanding};
+ghost use Rattle.store_model.specs.Sound.{AreComplete, IsInRoom, IsStanding, IsWellFormed, KnowsExactly};
 
 /// No blob is stored twice, claimed twice, or claimed and stored; a lane has one claim at most; and all
 /// that is stored or has room fits. So what lasts can begin again, also what a broken call meant.
@@ -17,4 +17,17 @@ pub fn stock_and_claims_stay_in_room()
     ensures meant { (origin : Origin) (history : List EventOf) (e : EventOf) → IsWellFormed origin
         → IsLegal origin history → IsDue (after origin history) (length history + 1) e → e.broke ≡ true
         → IsStanding origin.geometry (meant (after origin history) (length history + 1) e.lane e.act) }
+{}
+
+/// After each legal history the books know each protected package that is stored, and no other.
+pub fn books_know_what_is_protected()
+    ensures { (origin : Origin) (history : List EventOf) → IsLegal origin history
+        → KnowsExactly (after origin history).books (protected_in (after origin history)) (after origin history).stock }
+{}
+
+/// After each legal history all blobs of each package of the base, of each active and of each open one
+/// are stored, whatever was collected.
+pub fn packages_stay_complete()
+    ensures { (origin : Origin) (history : List EventOf) → IsLegal origin history
+        → AreComplete (after origin history) }
 {}
