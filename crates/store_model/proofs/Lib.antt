@@ -7,3 +7,4 @@ pub mod Sound
 pub mod SoundBooks
 pub mod SoundSystems
 pub mod SoundPackages
+pub mod SoundUpdates

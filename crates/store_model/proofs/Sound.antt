@@ -1,23 +1,25 @@
 -- What each step keeps holds after each legal history.
-use Rattle.std.proofs.Common.{◌≡◌, ℕ, ◌+◌, Bool, true, false, List, [], ◌∷◌, length, Option, Some, None, refl, subst, ◌∙◌, arith, rules}
-use Rattle.std.specs.Prelude.{◌==◌}
+use Rattle.std.proofs.Common.{◌++◌, cond, not, ◌≡◌, ℕ, ◌+◌, Bool, true, false, List, [], ◌∷◌, length, Option, Some, None, refl, subst, ◌∙◌, arith, rules}
+use Rattle.std.specs.Prelude.{◌==◌, IfSome}
 use Rattle.std.specs.List.{IsDistinct}
 use Rattle.std.proofs.lemmas.List.Elements.{All-nil}
 use Rattle.pkg_names.specs.Root.{root_eq}
 use Rattle.image_layout.specs.declared.geometry.Geometry.{Geometry}
 use Rattle.store_model.specs.declared.events.Event.{Event}
 use Rattle.store_model.specs.declared.events.Act.{Act}
-use Rattle.store_model.specs.declared.events.Act.TheVariants.{Put, Land, Copy, Seal}
-use Rattle.store_model.specs.State.{protected_in, State, durable, claim_of}
-use Rattle.store_model.specs.Step.{IsActDue, IsActDueIf, MayWrite, IsDue, next, meant, step}
+use Rattle.store_model.specs.declared.events.Act.TheVariants.{Boot, Put, Land, Copy, Seal}
+use Rattle.abr_record.specs.declared.Slot.{Slot}
+use Rattle.store_model.specs.State.{protected_in, Stage, State, durable, claim_of}
+use Rattle.store_model.specs.Step.{IsActDue, IsActDueIf, MayWrite, IsDue, next, next_broken, is_boot, meant, step}
 use Rattle.store_model.specs.History.{Beginning, Origin, start, IsLegalFrom, IsLegal, after_from, after}
 use Rattle.store_model.specs.History.Beginning.{Lasted, Factory}
-use Rattle.store_model.specs.Sound.{KnowsExactly, AreComplete, IsStanding, IsWellFormed, IsInRoom, CanBegin}
+use Rattle.store_model.specs.Sound.{KnowsExactly, AreComplete, IsActivated, IsInPhase, IsSound, IsStanding, IsWellFormed, IsInRoom, CanBegin}
 use Rattle.fetch_queue.specs.declared.FetchEnd.{FetchEnd}
 use Rattle.store_model.proofs.Frames.{keeps_next}
 use Rattle.store_model.proofs.SoundSteps.{InRoom, some_and, room_next, room_step}
 use Rattle.store_model.proofs.SoundBooks.{knows_exactly, knows_nothing}
 use Rattle.store_model.proofs.SoundPackages.{complete_step}
+use Rattle.store_model.proofs.SoundUpdates.{IsUpdateSound, updates_step}
 use Rattle.store_model.proofs.SoundRoom.{room_landed}
 
 -- what each step keeps
@@ -147,3 +149,62 @@ packages_begin g Factory = record { base = All-nil _; active = All-nil _; dirs =
 pub complete_after : (origin : Origin) (history : List Event) → IsLegal origin history → AreComplete (after origin history)
 complete_after origin history legal =
     holds_from AreComplete complete_step (start origin) 1 history (packages_begin origin.geometry origin.beginning) legal
+
+-- ---- updates, and all of it
+
+updates_begin : (g : Geometry) (b : Beginning) → IsUpdateSound (start (record { geometry = g; beginning = b }))
+updates_begin g (Lasted d) = record { staged = tt; stage = tt; before = λ opening. (refl, refl) }
+updates_begin g Factory = record { staged = tt; stage = tt; before = λ opening. (refl, refl) }
+
+updates_after : (origin : Origin) (history : List Event) → IsLegal origin history → IsUpdateSound (after origin history)
+updates_after origin history legal =
+    holds_from IsUpdateSound updates_step (start origin) 1 history (updates_begin origin.geometry origin.beginning) legal
+
+pub staged_after : (origin : Origin) (history : List Event) → IsLegal origin history → IfSome (after origin history).staged (IsActivated (after origin history))
+staged_after origin history legal = (updates_after origin history legal).staged
+
+pub stage_after : (origin : Origin) (history : List Event) → IsLegal origin history → IfSome (after origin history).stage (λ (stage : Stage). IsInPhase (after origin history) stage.phase)
+stage_after origin history legal = (updates_after origin history legal).stage
+
+pub sound_after : (origin : Origin) (history : List Event) → IsWellFormed origin → IsLegal origin history → IsSound (after origin history)
+sound_after origin history begins legal =
+    let updates = updates_after origin history legal in
+    record {
+      room = (room_after origin history begins legal).room;
+      books = books_after origin history legal;
+      packages = complete_after origin history legal;
+      staged = updates.staged;
+      stage = updates.stage;
+    }
+
+-- ---- what runs
+
+record RunsOn (slot : Slot) (s : State) : Type 0 where
+  booted : s.booted ≡ true
+  running : s.running ≡ slot
+
+no_boot : (booted : Bool) → true ≡ not booted → booted ≡ true → ⊥
+no_boot true e is = absurd cc
+no_boot false e is = absurd cc
+
+runs_next : (s : State) (number lane : ℕ) (act : Act) (slot : Slot) → is_boot act ≡ not s.booted → RunsOn slot s → RunsOn slot (next s number lane act)
+runs_next s number lane (Boot to seen) slot boots h = absurd (no_boot s.booted boots h.booted)
+runs_next s number lane act slot boots h =
+    let keeps = keeps_next s number lane act in
+    record { booted = keeps.booted refl ∙ h.booted; running = keeps.running refl ∙ h.running }
+
+runs_if : (s : State) (number lane : ℕ) (act : Act) (broke : Bool) (slot : Slot) → is_boot act ≡ not s.booted → RunsOn slot s → RunsOn slot (cond broke (next_broken s number act) (next s number lane act))
+runs_if s number lane act true slot boots h = record { booted = h.booted; running = h.running }
+runs_if s number lane act false slot boots h = runs_next s number lane act slot boots h
+
+runs_step : (slot : Slot) (s : State) (number : ℕ) (e : Event) → IsDue s number e → RunsOn slot s → RunsOn slot (step s number e)
+runs_step slot s number e due h =
+    let runs = runs_if s number e.lane e.act e.broke slot due.boots h in
+    record { booted = runs.booted; running = runs.running }
+
+runs_from : (s : State) (number : ℕ) (history more : List Event) → IsLegalFrom s number (history ++ more) → (after_from s number history).booted ≡ true → (after_from s number (history ++ more)).running ≡ (after_from s number history).running
+runs_from s number [] more legal booted = (holds_from (RunsOn s.running) (runs_step s.running) s number more (record { booted = booted; running = refl }) legal).running
+runs_from s number (e ∷ history) more legal booted = runs_from (step s number e) (number + 1) history more legal.1 booted
+
+pub runs_on : (origin : Origin) (history more : List Event) → IsLegal origin (history ++ more) → (after origin history).booted ≡ true → (after origin (history ++ more)).running ≡ (after origin history).running
+runs_on origin history more legal booted = runs_from (start origin) 1 history more legal booted

@@ -23,5 +23,6 @@ pub use replies::{
     StageReply, Ticket, WantReply,
 };
 pub use sound_laws::{
-    books_know_what_is_protected, packages_stay_complete, stock_and_claims_stay_in_room,
+    books_know_what_is_protected, histories_are_sound, packages_stay_complete, running_slot_stays,
+    stock_and_claims_stay_in_room, updates_stay_safe,
 };

@@ -1,11 +1,11 @@
 //! What holds after each legal history, each the contract of a function that does nothing.
 
-ghost use Rattle.std.specs.Prelude.{◌≡◌, ℕ, ◌+◌, true, List, length};
+ghost use Rattle.std.specs.Prelude.{◌≡◌, ℕ, ◌+◌, ◌++◌, true, List, length, IfSome};
 ghost use Rattle.store_model.specs.declared.events.Event.{Event as EventOf};
-ghost use Rattle.store_model.specs.State.{durable, protected_in};
+ghost use Rattle.store_model.specs.State.{Stage, durable, protected_in};
 ghost use Rattle.store_model.specs.Step.{IsDue, meant};
 ghost use Rattle.store_model.specs.History.{Origin, IsLegal, after};
-ghost use Rattle.store_model.specs.Sound.{AreComplete, IsInRoom, IsStanding, IsWellFormed, KnowsExactly};
+ghost use Rattle.store_model.specs.Sound.{AreComplete, IsActivated, IsInPhase, IsInRoom, IsSound, IsStanding, IsWellFormed, KnowsExactly};
 
 /// No blob is stored twice, claimed twice, or claimed and stored; a lane has one claim at most; and all
 /// that is stored or has room fits. So what lasts can begin again, also what a broken call meant.
@@ -30,4 +30,27 @@ pub fn books_know_what_is_protected()
 pub fn packages_stay_complete()
     ensures { (origin : Origin) (history : List EventOf) → IsLegal origin history
         → AreComplete (after origin history) }
+{}
+
+/// After each legal history, what an update is about to fill or has sealed can't be booted, and what it has
+/// activated can; the running system has succeeded, and the packages of the other's base are retained and
+/// complete.
+pub fn updates_stay_safe()
+    ensures stage { (origin : Origin) (history : List EventOf) → IsLegal origin history
+        → IfSome (after origin history).stage (λ (stage : Stage). IsInPhase (after origin history) stage.phase) }
+    ensures staged { (origin : Origin) (history : List EventOf) → IsLegal origin history
+        → IfSome (after origin history).staged (IsActivated (after origin history)) }
+{}
+
+/// Once the boot is over, the same slot runs.
+pub fn running_slot_stays()
+    ensures { (origin : Origin) (history more : List EventOf) → IsLegal origin (history ++ more)
+        → (after origin history).booted ≡ true
+        → (after origin (history ++ more)).running ≡ (after origin history).running }
+{}
+
+/// The state after each legal history is sound, the empty one and those in which a write failed included.
+pub fn histories_are_sound()
+    ensures { (origin : Origin) (history : List EventOf) → IsWellFormed origin → IsLegal origin history
+        → IsSound (after origin history) }
 {}
