@@ -1,9 +1,9 @@
 -- The books know exactly the protected packages that are stored; and a complete package stays complete
 -- as long as it is protected.
-use Rattle.std.proofs.Common.{inl, inr, ◌≡◌, ℕ, Bool, true, false, cond, not, List, [], ◌∷◌, ◌++◌, map, Option, Some, None, is_some, All, refl, sym, ap, subst, ◌∙◌, ◌||◌, ◌&&◌, arith, rules}
-use Rattle.std.specs.Prelude.{Contains, nat_lt, filter, find, option_and_then}
-use Rattle.std.specs.List.{list_any, list_all}
-use Rattle.std.proofs.lemmas.Bool.{cases_Bool, true≢false, or_cases, or_left, or_right, and_parts, and_from, not-true, not_from_true, not_from_false}
+use Rattle.std.proofs.Common.{inl, inr, ◌≡◌, ℕ, Bool, true, false, not, List, [], ◌∷◌, ◌++◌, map, Option, Some, None, is_some, All, refl, sym, ap, subst, ◌∙◌, ◌&&◌}
+use Rattle.std.specs.Prelude.{Contains, nat_lt, filter, option_and_then}
+use Rattle.std.specs.List.{list_all}
+use Rattle.std.proofs.lemmas.Bool.{cases_Bool, true≢false, or_cases, or_left, or_right, and_parts, and_from}
 use Rattle.std.proofs.lemmas.List.Elements.{All-nil, All-cons, All-weaker}
 use Rattle.std.proofs.lemmas.List.Folds.{list_any-append, list_any_at}
 use Rattle.pkg_names.specs.declared.root.Root.{Root}
@@ -17,9 +17,9 @@ use Rattle.package_book.specs.Unprotected.{is_named, unprotected}
 use Rattle.package_book.proofs.NameLaws.{has_itself, depends_on}
 use Rattle.store_model.specs.declared.events.LookedAt.{LookedAt}
 use Rattle.store_model.specs.declared.events.Event.{Event}
-use Rattle.store_model.specs.State.{State, Stored, stored_len, is_stored, stock_roots, has_root, without_blobs, protected_in}
+use Rattle.store_model.specs.State.{State, Stored, is_stored, stock_roots, has_root, without_blobs, protected_in}
 use Rattle.store_model.specs.Packages.{book_of, the_book, known_book, is_complete}
-use Rattle.store_model.specs.Settling.{with_looked, with_long, looked_books, kept_books, settle, KnowsAll}
+use Rattle.store_model.specs.Settling.{with_looked, with_long, looked_books, kept_books, settle}
 use Rattle.store_model.specs.Step.{IsDue, step}
 use Rattle.store_model.specs.Sound.{KnowsExactly}
 use Rattle.store_model.proofs.Knowing.{cond_both, Knows, knows_more, kept_same, known_after}

@@ -1,7 +1,7 @@
 -- The packages of the base, the active and the open ones stay complete.
-use Rattle.std.proofs.Common.{inl, inr, ◌≡◌, ℕ, ◌+◌, Bool, true, false, cond, not, List, [], ◌∷◌, ◌++◌, map, Option, Some, None, is_some, All, refl, sym, ap, subst, ◌∙◌, ◌||◌, ◌&&◌, arith, rules}
-use Rattle.std.specs.Prelude.{◌==◌, filter, find, IsSomeAnd}
-use Rattle.std.proofs.lemmas.Bool.{cases_Bool, true≢false, and_from}
+use Rattle.std.proofs.Common.{inl, inr, ◌≡◌, ℕ, Bool, true, false, cond, not, List, [], ◌∷◌, ◌++◌, map, Option, Some, None, is_some, All, refl, sym, ap, subst, ◌∙◌}
+use Rattle.std.specs.Prelude.{◌==◌}
+use Rattle.std.proofs.lemmas.Bool.{cases_Bool, and_from}
 use Rattle.std.proofs.lemmas.List.Elements.{All-nil, All-cons, All-head, All-tail, All-weaker, All-filter, All-push}
 use Rattle.pkg_names.specs.NameAndVariant.{NameAndVariant, path_eq}
 use Rattle.pkg_names.specs.declared.root.Root.{Root}
@@ -15,16 +15,15 @@ use Rattle.package_book.specs.declared.fault.PackageFault.{PackageFault}
 use Rattle.package_book.specs.Names.{names}
 use Rattle.package_indexes.specs.Indexes.{root_at, with_root, or_else, roots_of}
 use Rattle.system_lists.specs.Judging.{Verdict, AtHand, judged}
-use Rattle.system_lists.specs.Judging.Verdict.{Missing, Faulty, Unread, Whole}
+use Rattle.system_lists.specs.Judging.Verdict.{Whole}
 use Rattle.store_model.specs.declared.events.Event.{Event}
 use Rattle.store_model.specs.declared.events.LookedAt.{LookedAt}
 use Rattle.store_model.specs.declared.events.Act.{Act}
-use Rattle.store_model.specs.declared.events.Act.TheVariants.{Boot, Begin, Want, Land, OpenPath, Close, Collect}
-use Rattle.store_model.specs.declared.ends.WantEnd.{WantEnd}
+use Rattle.store_model.specs.declared.events.Act.TheVariants.{Boot, Want, Land, OpenPath, Close, Collect}
 use Rattle.store_model.specs.declared.ends.WantEnd.TheVariants as wants
-use Rattle.store_model.specs.State.{State, Stored, Arrival, is_stored, stock_roots, has_root, arrival_of, sys_of, is_committed, protected_in}
+use Rattle.store_model.specs.State.{State, Stored, Arrival, is_stored, has_root, arrival_of, sys_of, is_committed, protected_in}
 use Rattle.store_model.specs.Packages.{known_fault, is_complete, rest}
-use Rattle.store_model.specs.Settling.{looked_books, settle}
+use Rattle.store_model.specs.Settling.{looked_books}
 use Rattle.store_model.specs.Systems.{at_hand, booted_verdict, base_of}
 use Rattle.store_model.specs.Step.{IsActDue, IsActDueIf, IsDue, next, next_broken, next_of, seen_by, step}
 use Rattle.store_model.specs.Acts.Boot.{base_after_boot}
@@ -36,7 +35,7 @@ use Rattle.store_model.proofs.Frames.{keeps_next, books_next}
 use Rattle.store_model.proofs.SoundRoom.{found_has}
 use Rattle.store_model.proofs.SoundSteps.{some_and}
 use Rattle.store_model.proofs.SoundBooks.{complete_in, complete_more, complete_looked, settles_complete, stored_more, collected_stored, each_in, has_left, has_right}
-use Rattle.store_model.proofs.SoundSystems.{IsGood, IsWholeBase, good_system}
+use Rattle.store_model.proofs.SoundSystems.{IsGood, good_system}
 
 -- ---- which packages are protected
 

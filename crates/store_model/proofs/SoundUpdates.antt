@@ -1,11 +1,9 @@
 -- What an update that is under way, or was activated, says of the slots and of what is retained.
-use Rattle.std.proofs.Common.{inl, inr, ◌≡◌, ◌≢◌, ℕ, ◌+◌, Bool, true, false, cond, not, List, [], ◌∷◌, map, Option, Some, None, is_some, All, refl, sym, ap, subst, ◌∙◌, ◌||◌, ◌&&◌, arith, rules}
+use Rattle.std.proofs.Common.{inl, inr, ◌≡◌, ℕ, Bool, true, false, cond, not, List, ◌∷◌, Option, Some, None, is_some, All, refl, sym, ap, subst, ◌∙◌, ◌||◌, ◌&&◌}
 use Rattle.std.specs.Prelude.{◌↔◌, nat_lt, IfSome, IsSomeAnd}
-use Rattle.std.proofs.lemmas.Bool.{cases_Bool, true≢false, and_from, and_parts, or_right, not-true, not-false, not_from_true, not_from_false}
+use Rattle.std.proofs.lemmas.Bool.{cases_Bool, true≢false, and_from, and_parts, or_right, not-true, not-false}
 use Rattle.std.proofs.lemmas.Option.{IfSome_then}
 use Rattle.std.proofs.lemmas.List.Elements.{All-weaker}
-use Rattle.pkg_names.specs.NameAndVariant.{NameAndVariant, path_eq}
-use Rattle.pkg_names.proofs.Roots.{path_eq-refl}
 use Rattle.pkg_names.specs.declared.root.Root.{Root}
 use Rattle.pkg_names.specs.declared.pinned.Pinned.{Pinned}
 use Rattle.abr_record.specs.declared.Record.{Record}
@@ -14,8 +12,8 @@ use Rattle.abr_record.specs.declared.Slot.TheVariants.{A, B, R}
 use Rattle.abr_record.specs.Marks.{unbootable_record, active_record}
 use Rattle.image_layout.specs.declared.Sys.{Sys}
 use Rattle.package_indexes.specs.Indexes.{root_at}
-use Rattle.system_lists.specs.Judging.{Verdict, AtHand, judged, system_path}
-use Rattle.system_lists.specs.Judging.Verdict.{Missing, Faulty, Unread, Whole}
+use Rattle.system_lists.specs.Judging.{system_path}
+use Rattle.system_lists.specs.Judging.Verdict.{Whole}
 use Rattle.store_model.specs.declared.events.Event.{Event}
 use Rattle.store_model.specs.declared.events.LookedAt.{LookedAt}
 use Rattle.store_model.specs.declared.events.Act.{Act}
@@ -29,18 +27,16 @@ use Rattle.store_model.specs.State.{State, Phase, has_root, sys_of, other_slot, 
 use Rattle.store_model.specs.State as state
 use Rattle.store_model.specs.State.Phase.{Filling, Sealed, Done}
 use Rattle.store_model.specs.Packages.{is_complete}
-use Rattle.store_model.specs.Settling.{looked_books, settle}
 use Rattle.store_model.specs.Systems.{at_hand, staged_verdict, base_of}
 use Rattle.store_model.specs.Step.{IsActDue, IsActDueIf, IsDue, next, next_broken, next_of, seen_by, is_boot, step}
 use Rattle.package_indexes.specs.Sets.{each_once}
-use Rattle.store_model.specs.Acts.Boot.{IsWhole}
 use Rattle.store_model.specs.Acts.Stage.{free_answer, held_answer, stage_answer, staging, abr_after_stage}
 use Rattle.store_model.specs.Acts.Activate.{activated, activated_at}
-use Rattle.store_model.specs.Sound.{IsKept, IsActivated, IsUnderWay, IsInPhase}
+use Rattle.store_model.specs.Sound.{IsActivated, IsInPhase}
 use Rattle.store_model.proofs.Frames.{keeps_next, books_next}
-use Rattle.store_model.proofs.SoundBooks.{complete_in, settles_complete}
-use Rattle.store_model.proofs.SoundSystems.{IsGood, IsWholeBase, good_system}
-use Rattle.store_model.proofs.SoundPackages.{Was, IsReady, by_retained, good_complete, still_ready}
+use Rattle.store_model.proofs.SoundBooks.{settles_complete}
+use Rattle.store_model.proofs.SoundSystems.{IsGood, good_system}
+use Rattle.store_model.proofs.SoundPackages.{IsReady, by_retained, good_complete, still_ready}
 
 -- ---- by parts of the state
 
