@@ -8,3 +8,4 @@ pub mod SoundBooks
 pub mod SoundSystems
 pub mod SoundPackages
 pub mod SoundUpdates
+pub mod SoundSlots

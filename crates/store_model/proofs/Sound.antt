@@ -1,5 +1,5 @@
 -- What each step keeps holds after each legal history.
-use Rattle.std.proofs.Common.{◌++◌, cond, not, ◌≡◌, ℕ, ◌+◌, Bool, true, false, List, [], ◌∷◌, length, Option, Some, None, refl, subst, ◌∙◌, arith, rules}
+use Rattle.std.proofs.Common.{sym, is_some, ◌++◌, cond, not, ◌≡◌, ℕ, ◌+◌, Bool, true, false, List, [], ◌∷◌, length, Option, Some, None, refl, subst, ◌∙◌, arith, rules}
 use Rattle.std.specs.Prelude.{◌==◌, IfSome}
 use Rattle.std.specs.List.{IsDistinct}
 use Rattle.std.proofs.lemmas.List.Elements.{All-nil}
@@ -9,16 +9,20 @@ use Rattle.store_model.specs.declared.events.Event.{Event}
 use Rattle.store_model.specs.declared.events.Act.{Act}
 use Rattle.store_model.specs.declared.events.Act.TheVariants.{Boot, Put, Land, Copy, Seal}
 use Rattle.abr_record.specs.declared.Slot.{Slot}
+use Rattle.abr_record.specs.Boot.{is_bootable}
+use Rattle.image_layout.specs.declared.Sys.{Sys}
+use Rattle.std.proofs.lemmas.Bool.{true≢false}
 use Rattle.store_model.specs.State.{protected_in, Stage, State, durable, claim_of}
 use Rattle.store_model.specs.Step.{IsActDue, IsActDueIf, MayWrite, IsDue, next, next_broken, is_boot, meant, step}
 use Rattle.store_model.specs.History.{Beginning, Origin, start, IsLegalFrom, IsLegal, after_from, after}
 use Rattle.store_model.specs.History.Beginning.{Lasted, Factory}
-use Rattle.store_model.specs.Sound.{KnowsExactly, AreComplete, IsActivated, IsInPhase, IsSound, IsStanding, IsWellFormed, IsInRoom, CanBegin}
+use Rattle.store_model.specs.Sound.{HaveSystems, KnowsExactly, AreComplete, IsActivated, IsInPhase, IsSound, IsStanding, IsWellFormed, IsInRoom, CanBegin}
 use Rattle.fetch_queue.specs.declared.FetchEnd.{FetchEnd}
 use Rattle.store_model.proofs.Frames.{keeps_next}
 use Rattle.store_model.proofs.SoundSteps.{InRoom, some_and, room_next, room_step}
 use Rattle.store_model.proofs.SoundBooks.{knows_exactly, knows_nothing}
 use Rattle.store_model.proofs.SoundPackages.{complete_step}
+use Rattle.store_model.proofs.SoundSlots.{have_next, have_step}
 use Rattle.store_model.proofs.SoundUpdates.{IsUpdateSound, updates_step}
 use Rattle.store_model.proofs.SoundRoom.{room_landed}
 
@@ -87,50 +91,6 @@ in_room origin history begins legal =
     let h = room_after origin history begins legal in
     subst (λ (g : Geometry). IsInRoom g (after origin history).stock (after origin history).claims) h.geometry h.room
 
-standing_in : (g : Geometry) (s : State) → IsInRoom g s.stock s.claims → IsStanding g (durable s)
-standing_in g s h =
-    let pages = h.pages in
-    let nodes = h.nodes in
-    record {
-      roots = h.stored;
-      lengths = h.lengths;
-      pages = omega (arith, pages);
-      nodes = omega (arith, nodes);
-    }
-
-pub lasts_well : (origin : Origin) (history : List Event) → IsWellFormed origin → IsLegal origin history → IsStanding origin.geometry (durable (after origin history))
-lasts_well origin history begins legal = standing_in origin.geometry (after origin history) (in_room origin history begins legal)
-
--- what a call meant whose write failed
-meant_next : (s : State) (number lane : ℕ) (act : Act) → IsActDue s lane act → InRoom s → IsStanding s.geometry (durable (next s number lane act))
-meant_next s number lane act due h =
-    subst (λ (g : Geometry). IsStanding g (durable (next s number lane act))) (keeps_next s number lane act).geometry
-    (standing_in (next s number lane act).geometry (next s number lane act) (room_next s number lane act due h))
-
-meant_in : (s : State) (number lane : ℕ) (act : Act) → MayWrite s number lane act → InRoom s → IsStanding s.geometry (meant s number lane act)
-meant_in s number lane (Put root reply) due h = standing_in s.geometry s h
-meant_in s number lane (Copy image dir file reply) due h = standing_in s.geometry s h
-meant_in s number lane (Seal sys reply) due h = standing_in s.geometry s h
-meant_in s number lane (Land root len None seen) due h =
-    let found = some_and (claim_of s.claims root) due.2 in
-    standing_in s.geometry (next s number lane (Land root len None seen)) (room_landed s.geometry s.stock s.claims root len found.0 h found.1 found.2.room)
-meant_in s number lane (Land root len (Some end) seen) due h = absurd (no_end due.0) where
-  no_end : ◌≡◌ {A = Option FetchEnd} (Some end) None → ⊥
-  no_end e = cc
-meant_in s number lane act due h = meant_next s number lane act due.0 h
-
-broken_due : (s : State) (number : ℕ) (e : Event) (broke : Bool) → broke ≡ true → IsActDueIf broke s number e.lane e.act → MayWrite s number e.lane e.act
-broken_due s number e true is due = due.0
-broken_due s number e false is due = absurd cc
-
-pub means_well : (origin : Origin) (history : List Event) (e : Event) → IsWellFormed origin → IsLegal origin history → IsDue (after origin history) (length history + 1) e → e.broke ≡ true
-    → IsStanding origin.geometry (meant (after origin history) (length history + 1) e.lane e.act)
-means_well origin history e begins legal due broke =
-    let s = after origin history in
-    let h = room_after origin history begins legal in
-    subst (λ (g : Geometry). IsStanding g (meant s (length history + 1) e.lane e.act)) h.geometry
-    (meant_in s (length history + 1) e.lane e.act (broken_due s (length history + 1) e e.broke broke due.due) h.room)
-
 -- ---- the books and the packages
 
 books_begin : (g : Geometry) (b : Beginning) → KnowsExactly (start (record { geometry = g; beginning = b })).books (protected_in (start (record { geometry = g; beginning = b }))) (start (record { geometry = g; beginning = b })).stock
@@ -150,7 +110,7 @@ pub complete_after : (origin : Origin) (history : List Event) → IsLegal origin
 complete_after origin history legal =
     holds_from AreComplete complete_step (start origin) 1 history (packages_begin origin.geometry origin.beginning) legal
 
--- ---- updates, and all of it
+-- ---- updates
 
 updates_begin : (g : Geometry) (b : Beginning) → IsUpdateSound (start (record { geometry = g; beginning = b }))
 updates_begin g (Lasted d) = record { staged = tt; stage = tt; before = λ opening. (refl, refl) }
@@ -166,6 +126,81 @@ staged_after origin history legal = (updates_after origin history legal).staged
 pub stage_after : (origin : Origin) (history : List Event) → IsLegal origin history → IfSome (after origin history).stage (λ (stage : Stage). IsInPhase (after origin history) stage.phase)
 stage_after origin history legal = (updates_after origin history legal).stage
 
+-- ---- the slots
+
+record HasSlots (s : State) : Type 0 where
+  updates : IsUpdateSound s
+  slots : HaveSystems s
+
+slots_begin : (g : Geometry) (b : Beginning) → CanBegin g b → HaveSystems (start (record { geometry = g; beginning = b }))
+slots_begin g (Lasted d) h = record {
+  a = λ bootable. h.a ∙ bootable;
+  b = λ bootable. h.b ∙ bootable;
+  running = λ never. absurd (true≢false never);
+}
+slots_begin g Factory h = record { a = λ never. absurd (true≢false (sym never)); b = λ bootable. refl; running = λ usual. refl }
+
+have_after : (origin : Origin) (history : List Event) → IsWellFormed origin → IsLegal origin history → HaveSystems (after origin history)
+have_after origin history begins legal =
+    (holds_from HasSlots (λ s number e due h. record { updates = updates_step s number e due h.updates; slots = have_step s number e due h.updates h.slots })
+    (start origin) 1 history
+    (record { updates = updates_begin origin.geometry origin.beginning; slots = slots_begin origin.geometry origin.beginning begins }) legal).slots
+
+-- ---- what lasts
+
+same_bootable : (bootable : Bool) (sys : Option Sys) → (bootable ≡ true → is_some sys ≡ true) → is_some (cond bootable sys None) ≡ bootable
+same_bootable true sys h = h refl
+same_bootable false sys h = refl
+
+standing_in : (g : Geometry) (s : State) → IsInRoom g s.stock s.claims → HaveSystems s → IsStanding g (durable s)
+standing_in g s h have =
+    let pages = h.pages in
+    let nodes = h.nodes in
+    record {
+      roots = h.stored;
+      lengths = h.lengths;
+      pages = omega (arith, pages);
+      nodes = omega (arith, nodes);
+      a = same_bootable (is_bootable s.abr.a) s.a have.a;
+      b = same_bootable (is_bootable s.abr.b) s.b have.b;
+    }
+
+pub lasts_well : (origin : Origin) (history : List Event) → IsWellFormed origin → IsLegal origin history → IsStanding origin.geometry (durable (after origin history))
+lasts_well origin history begins legal = standing_in origin.geometry (after origin history) (in_room origin history begins legal) (have_after origin history begins legal)
+
+-- what a call meant whose write failed
+meant_next : (s : State) (number lane : ℕ) (act : Act) → IsActDue s lane act → InRoom s → IsUpdateSound s → HaveSystems s → IsStanding s.geometry (durable (next s number lane act))
+meant_next s number lane act due h sound have =
+    subst (λ (g : Geometry). IsStanding g (durable (next s number lane act))) (keeps_next s number lane act).geometry
+    (standing_in (next s number lane act).geometry (next s number lane act) (room_next s number lane act due h) (have_next s number lane act due sound have))
+
+meant_in : (s : State) (number lane : ℕ) (act : Act) → MayWrite s number lane act → InRoom s → IsUpdateSound s → HaveSystems s → IsStanding s.geometry (meant s number lane act)
+meant_in s number lane (Put root reply) due h sound have = standing_in s.geometry s h have
+meant_in s number lane (Copy image dir file reply) due h sound have = standing_in s.geometry s h have
+meant_in s number lane (Seal sys reply) due h sound have = standing_in s.geometry s h have
+meant_in s number lane (Land root len None seen) due h sound have =
+    let found = some_and (claim_of s.claims root) due.2 in
+    standing_in s.geometry (next s number lane (Land root len None seen)) (room_landed s.geometry s.stock s.claims root len found.0 h found.1 found.2.room)
+    (record { a = have.a; b = have.b; running = have.running })
+meant_in s number lane (Land root len (Some end) seen) due h sound have = absurd (no_end due.0) where
+  no_end : ◌≡◌ {A = Option FetchEnd} (Some end) None → ⊥
+  no_end e = cc
+meant_in s number lane act due h sound have = meant_next s number lane act due.0 h sound have
+
+broken_due : (s : State) (number : ℕ) (e : Event) (broke : Bool) → broke ≡ true → IsActDueIf broke s number e.lane e.act → MayWrite s number e.lane e.act
+broken_due s number e true is due = due.0
+broken_due s number e false is due = absurd cc
+
+pub means_well : (origin : Origin) (history : List Event) (e : Event) → IsWellFormed origin → IsLegal origin history → IsDue (after origin history) (length history + 1) e → e.broke ≡ true
+    → IsStanding origin.geometry (meant (after origin history) (length history + 1) e.lane e.act)
+means_well origin history e begins legal due broke =
+    let s = after origin history in
+    let h = room_after origin history begins legal in
+    subst (λ (g : Geometry). IsStanding g (meant s (length history + 1) e.lane e.act)) h.geometry
+    (meant_in s (length history + 1) e.lane e.act (broken_due s (length history + 1) e e.broke broke due.due) h.room (updates_after origin history legal) (have_after origin history begins legal))
+
+-- ---- all of it
+
 pub sound_after : (origin : Origin) (history : List Event) → IsWellFormed origin → IsLegal origin history → IsSound (after origin history)
 sound_after origin history begins legal =
     let updates = updates_after origin history legal in
@@ -173,6 +208,7 @@ sound_after origin history begins legal =
       room = (room_after origin history begins legal).room;
       books = books_after origin history legal;
       packages = complete_after origin history legal;
+      slots = have_after origin history begins legal;
       staged = updates.staged;
       stage = updates.stage;
     }

@@ -40,32 +40,32 @@ use Rattle.store_model.proofs.SoundPackages.{IsReady, by_retained, good_complete
 
 -- ---- by parts of the state
 
-abbrev sys_at : Option Sys → Option Sys → Slot → Option Sys
+abbrev pub sys_at : Option Sys → Option Sys → Slot → Option Sys
 sys_at a b A = a
 sys_at a b B = b
 sys_at a b R = None
 
-record Activated (abr : Record) (running : Slot) (a b : Option Sys) (kept : List Root) (P : Root → Type 0) (base : List Pinned) : Type 0 where
+pub record Activated (abr : Record) (running : Slot) (a b : Option Sys) (kept : List Root) (P : Root → Type 0) (base : List Pinned) : Type 0 where
   succeeded : is_successful abr running ≡ true
   other : is_other_bootable abr running ≡ true
   system : IsSomeAnd (sys_at a b (other_slot running)) (λ (sys : Sys). root_at base system_path ≡ Some sys.system)
   retained : All (λ (pair : Pinned). has_root kept pair.root ≡ true) base
   complete : All (λ (pair : Pinned). P pair.root) base
 
-record UnderWay (abr : Record) (running : Slot) : Type 0 where
-  succeeded : is_successful abr running ≡ true
-  other : is_other_bootable abr running ≡ false
+pub record UnderWay (abr : Record) (running : Slot) : Type 0 where
+  pub succeeded : is_successful abr running ≡ true
+  pub other : is_other_bootable abr running ≡ false
 
-abbrev InPhase : Record → Slot → Phase → Type 0
+abbrev pub InPhase : Record → Slot → Phase → Type 0
 InPhase abr running Filling = UnderWay abr running
 InPhase abr running (Sealed sys) = UnderWay abr running
 InPhase abr running Done = Unit {0}
 
-record Updates (abr : Record) (running : Slot) (a b : Option Sys) (kept : List Root) (under_way : Option state.Stage) (activated : Option (List Pinned)) (P : Root → Type 0) : Type 0 where
-  staged : IfSome activated (Activated abr running a b kept P)
-  stage : IfSome under_way (λ (s : state.Stage). InPhase abr running s.phase)
+pub record Updates (abr : Record) (running : Slot) (a b : Option Sys) (kept : List Root) (under_way : Option state.Stage) (activated : Option (List Pinned)) (P : Root → Type 0) : Type 0 where
+  pub staged : IfSome activated (Activated abr running a b kept P)
+  pub stage : IfSome under_way (λ (s : state.Stage). InPhase abr running s.phase)
 
-abbrev UpdatesOf : State → (Root → Type 0) → Type 0
+abbrev pub UpdatesOf : State → (Root → Type 0) → Type 0
 UpdatesOf s P = Updates s.abr s.running s.a s.b s.retained s.stage s.staged P
 
 same_updates : (P : Root → Type 0) (abr abr' : Record) (running running' : Slot) (a a' b b' : Option Sys) (retained retained' : List Root) (stage stage' : Option state.Stage) (staged staged' : Option (List Pinned))
@@ -116,7 +116,7 @@ phase_from s Filling h = record { running = h.succeeded; other = h.other }
 phase_from s (Sealed sys) h = record { running = h.succeeded; other = h.other }
 phase_from s Done h = tt
 
-updates_to : (s : State) → IsUpdateSound s → UpdatesOf s (λ root. is_complete s root ≡ true)
+pub updates_to : (s : State) → IsUpdateSound s → UpdatesOf s (λ root. is_complete s root ≡ true)
 updates_to s h = record {
   staged = IfSome_then s.staged h.staged (λ base r. record {
     succeeded = r.running;
@@ -175,10 +175,10 @@ updates_retain s P roots free h = record {
 }
 
 -- of an update that begins
-record IsTurn (s : State) (slot : Slot) : Type 0 where
-  usual : is_recovery s.running ≡ false
-  committed : is_committed s ≡ true
-  other : slot ≡ other_slot s.running
+pub record IsTurn (s : State) (slot : Slot) : Type 0 where
+  pub usual : is_recovery s.running ≡ false
+  pub committed : is_committed s ≡ true
+  pub other : slot ≡ other_slot s.running
 
 same_turn : (x y : Slot) → stages.Turn x ≡ stages.Turn y → x ≡ y
 same_turn x y same = cc
@@ -199,7 +199,7 @@ past_epoch : (slot other : Slot) (have : ℕ) (older : Bool) → stages.Turn slo
 past_epoch slot other have true e = absurd cc
 past_epoch slot other have false e = same_turn slot other e
 
-turn_of : (s : State) (epoch : ℕ) (slot : Slot) → stages.Turn slot ≡ stage_answer s epoch → IsTurn s slot
+pub turn_of : (s : State) (epoch : ℕ) (slot : Slot) → stages.Turn slot ≡ stage_answer s epoch → IsTurn s slot
 turn_of s epoch slot e =
     let first = past_recovery slot (is_recovery s.running) (held_answer s epoch s.stage) e in
     let second = past_holder s epoch slot s.stage first.1 in
@@ -255,7 +255,7 @@ under_way s Filling sys e h = absurd cc
 under_way s (Sealed other) sys e h = h
 under_way s Done sys e h = absurd cc
 
-sealed_in : (s : State) (lane : ℕ) (sys : Sys) (stage : Option state.Stage) → stage ≡ Some (record { lane = lane; phase = Sealed sys }) → IfSome stage (λ (st : state.Stage). InPhase s.abr s.running st.phase) → UnderWay s.abr s.running
+pub sealed_in : (s : State) (lane : ℕ) (sys : Sys) (stage : Option state.Stage) → stage ≡ Some (record { lane = lane; phase = Sealed sys }) → IfSome stage (λ (st : state.Stage). InPhase s.abr s.running st.phase) → UnderWay s.abr s.running
 sealed_in s lane sys None e h = absurd cc
 sealed_in s lane sys (Some stage) e h = under_way s stage.phase sys (phase_same e) h where
   phase_same : ◌≡◌ {A = Option state.Stage} (Some stage) (Some (record { lane = lane; phase = Sealed sys })) → stage.phase ≡ Sealed sys
@@ -267,7 +267,7 @@ system_first : (base rest : List Pinned) (root : Root) → base ≡ record { pat
 system_first base rest root e = ap (λ (pairs : List Pinned). root_at pairs system_path) e
 
 -- the state after an activation, by its base
-abbrev marked_active_in : State → ℕ → Slot → List Pinned → State
+abbrev pub marked_active_in : State → ℕ → Slot → List Pinned → State
 marked_active_in s lane slot base = record s { abr = active_record slot s.abr; stage = Some (record { lane = lane; phase = Done }); staged = Some base }
 
 updates_marked : (s : State) (lane : ℕ) (seen : List LookedAt) (sys : Sys) (base cached : List Pinned) (P : Root → Type 0) → UnderWay s.abr s.running → staged_verdict s seen sys ≡ Whole base cached

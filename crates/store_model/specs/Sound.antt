@@ -5,6 +5,7 @@ use Rattle.pkg_names.specs.declared.root.Root.{Root}
 use Rattle.pkg_names.specs.declared.pinned.Pinned.{Pinned}
 use Rattle.pkg_names.specs.Root.{root_eq}
 use Rattle.pkg_merkle.specs.declared.hasher.TheConstants.{BYTES_LIMIT}
+use Rattle.abr_record.specs.Boot.{is_bootable}
 use Rattle.image_layout.specs.declared.geometry.Geometry.{Geometry}
 use Rattle.image_layout.specs.declared.Sys.{Sys}
 use Rattle.fetch_queue.specs.declared.queue.ClaimEntry.{ClaimEntry}
@@ -12,7 +13,7 @@ use Rattle.open_tracker.specs.declared.dirs.DirEntry.{DirEntry}
 use Rattle.package_book.specs.Books.{Books, book_at}
 use Rattle.package_indexes.specs.Indexes.{root_at}
 use Rattle.system_lists.specs.Judging.{system_path}
-use Rattle.store_model.specs.State.{Stored, Standing, State, Phase, Stage, stock_roots, is_stored, has_root, sys_of, other_slot, is_successful, is_other_bootable, protected_in}
+use Rattle.store_model.specs.State.{Stored, Standing, State, Phase, Stage, stock_roots, is_stored, has_root, sys_of, other_slot, is_recovery, is_successful, is_other_bootable, protected_in}
 use Rattle.store_model.specs.State.Phase.{Filling, Sealed, Done}
 use Rattle.store_model.specs.Packages.{stock_pages, claim_pages, is_complete}
 use Rattle.store_model.specs.Settling.{KnowsAll}
@@ -21,12 +22,15 @@ use Rattle.store_model.specs.History.Beginning.{Lasted, Factory}
 
 -- ---- beginnings
 
--- A store can begin with this: no blob stands twice, none is too long, and pages and entries suffice.
+-- A store can begin with this: no blob stands twice, none is too long, pages and entries suffice, and a
+-- slot has a system exactly where it can be booted.
 pub record IsStanding (g : Geometry) (d : Standing) : Type 0 where
   pub roots : IsDistinct root_eq (stock_roots d.stock)
   pub lengths : All (λ (blob : Stored). blob.len ≤ BYTES_LIMIT) d.stock
   pub pages : stock_pages d.stock ≤ g.data_pages
   pub nodes : length d.stock ≤ g.blobs
+  pub a : is_some d.a ≡ is_bootable d.abr.a
+  pub b : is_some d.b ≡ is_bootable d.abr.b
 
 abbrev pub CanBegin : Geometry → Beginning → Type 0
 CanBegin g (Lasted d) = IsStanding g d
@@ -70,7 +74,13 @@ pub record AreComplete (s : State) : Type 0 where
   pub active : All (λ (pair : Pinned). is_complete s pair.root ≡ true) s.active
   pub dirs : All (λ (dir : DirEntry). is_complete s dir.root ≡ true) s.dirs
 
--- ---- updates
+-- ---- slots and updates
+
+-- a slot that can be booted has a system, and so has the one that runs
+pub record HaveSystems (s : State) : Type 0 where
+  pub a : is_bootable s.abr.a ≡ true → is_some s.a ≡ true
+  pub b : is_bootable s.abr.b ≡ true → is_some s.b ≡ true
+  pub running : is_recovery s.running ≡ false → is_some (sys_of s s.running) ≡ true
 
 pub record IsKept (s : State) (pair : Pinned) : Type 0 where
   pub retained : has_root s.retained pair.root ≡ true
@@ -100,5 +110,6 @@ pub record IsSound (s : State) : Type 0 where
   pub room : IsInRoom s.geometry s.stock s.claims
   pub books : KnowsExactly s.books (protected_in s) s.stock
   pub packages : AreComplete s
+  pub slots : HaveSystems s
   pub staged : IfSome s.staged (IsActivated s)
   pub stage : IfSome s.stage (λ (stage : Stage). IsInPhase s stage.phase)
