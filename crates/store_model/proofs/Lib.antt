@@ -9,3 +9,4 @@ pub mod SoundSystems
 pub mod SoundPackages
 pub mod SoundUpdates
 pub mod SoundSlots
+pub mod SoundBase

@@ -12,16 +12,17 @@ use Rattle.abr_record.specs.declared.Slot.{Slot}
 use Rattle.abr_record.specs.Boot.{is_bootable}
 use Rattle.image_layout.specs.declared.Sys.{Sys}
 use Rattle.std.proofs.lemmas.Bool.{true≢false}
-use Rattle.store_model.specs.State.{protected_in, Stage, State, durable, claim_of}
+use Rattle.store_model.specs.State.{opened, Standing, protected_in, Stage, State, durable, claim_of}
 use Rattle.store_model.specs.Step.{IsActDue, IsActDueIf, MayWrite, IsDue, next, next_broken, is_boot, meant, step}
 use Rattle.store_model.specs.History.{Beginning, Origin, start, IsLegalFrom, IsLegal, after_from, after}
 use Rattle.store_model.specs.History.Beginning.{Lasted, Factory}
-use Rattle.store_model.specs.Sound.{HaveSystems, KnowsExactly, AreComplete, IsActivated, IsInPhase, IsSound, IsStanding, IsWellFormed, IsInRoom, CanBegin}
+use Rattle.store_model.specs.Sound.{HaveSystems, KnowsExactly, AreComplete, IsActivated, IsInPhase, IsSound, RunsItsSystem, IsStanding, IsWellFormed, IsInRoom, CanBegin}
 use Rattle.fetch_queue.specs.declared.FetchEnd.{FetchEnd}
 use Rattle.store_model.proofs.Frames.{keeps_next}
 use Rattle.store_model.proofs.SoundSteps.{InRoom, some_and, room_next, room_step}
 use Rattle.store_model.proofs.SoundBooks.{knows_exactly, knows_nothing}
 use Rattle.store_model.proofs.SoundPackages.{complete_step}
+use Rattle.store_model.proofs.SoundBase.{base_step}
 use Rattle.store_model.proofs.SoundSlots.{have_next, have_step}
 use Rattle.store_model.proofs.SoundUpdates.{IsUpdateSound, updates_step}
 use Rattle.store_model.proofs.SoundRoom.{room_landed}
@@ -199,6 +200,18 @@ means_well origin history e begins legal due broke =
     subst (λ (g : Geometry). IsStanding g (meant s (length history + 1) e.lane e.act)) h.geometry
     (meant_in s (length history + 1) e.lane e.act (broken_due s (length history + 1) e e.broke broke due.due) h.room (updates_after origin history legal) (have_after origin history begins legal))
 
+-- what begins is what lasted
+kept_sys : (sys : Option Sys) (bootable : Bool) → is_some sys ≡ bootable → cond bootable sys None ≡ sys
+kept_sys sys true e = refl
+kept_sys None false e = refl
+kept_sys (Some sys) false e = absurd (true≢false e)
+
+pub begins_as_lasted : (g : Geometry) (d : Standing) → IsStanding g d → durable (opened g d) ≡ d
+begins_as_lasted g d h =
+    let in_a = kept_sys d.a (is_bootable d.abr.a) h.a in
+    let in_b = kept_sys d.b (is_bootable d.abr.b) h.b in
+    λ i. record { stock = d.stock; abr = d.abr; a = in_a i; b = in_b i }
+
 -- ---- all of it
 
 pub sound_after : (origin : Origin) (history : List Event) → IsWellFormed origin → IsLegal origin history → IsSound (after origin history)
@@ -244,3 +257,9 @@ runs_from s number (e ∷ history) more legal booted = runs_from (step s number 
 
 pub runs_on : (origin : Origin) (history more : List Event) → IsLegal origin (history ++ more) → (after origin history).booted ≡ true → (after origin (history ++ more)).running ≡ (after origin history).running
 runs_on origin history more legal booted = runs_from (start origin) 1 history more legal booted
+
+-- ---- the base of what runs
+
+pub runs_its_system : (g : Geometry) (d : Standing) (history : List Event) → IsLegal (record { geometry = g; beginning = Lasted d }) history → RunsItsSystem (after (record { geometry = g; beginning = Lasted d }) history)
+runs_its_system g d history legal =
+    holds_from RunsItsSystem base_step (opened g d) 1 history (record { base = λ never. absurd (true≢false never) }) legal

@@ -36,7 +36,7 @@ record Systems (abr : Record) (running : Slot) (sys_a sys_b : Option Sys) : Type
 abbrev SystemsOf : State → Type 0
 SystemsOf s = Systems s.abr s.running s.a s.b
 
-system_at : (s : State) (slot : Slot) → sys_of s slot ≡ sys_at s.a s.b slot
+pub system_at : (s : State) (slot : Slot) → sys_of s slot ≡ sys_at s.a s.b slot
 system_at s A = refl
 system_at s B = refl
 system_at s R = refl

@@ -263,7 +263,7 @@ sealed_in s lane sys (Some stage) e h = under_way s stage.phase sys (phase_same 
     some_is : (x y : state.Stage) → ◌≡◌ {A = Option state.Stage} (Some x) (Some y) → x ≡ y
     some_is x y e2 = cc
 
-system_first : (base rest : List Pinned) (root : Root) → base ≡ record { path = system_path; root = root } ∷ rest → root_at base system_path ≡ Some root
+pub system_first : (base rest : List Pinned) (root : Root) → base ≡ record { path = system_path; root = root } ∷ rest → root_at base system_path ≡ Some root
 system_first base rest root e = ap (λ (pairs : List Pinned). root_at pairs system_path) e
 
 -- the state after an activation, by its base

@@ -2,21 +2,29 @@
 
 ghost use Rattle.std.specs.Prelude.{◌≡◌, ℕ, ◌+◌, ◌++◌, true, List, length, IfSome};
 ghost use Rattle.store_model.specs.declared.events.Event.{Event as EventOf};
-ghost use Rattle.store_model.specs.State.{Stage, durable, protected_in};
+ghost use Rattle.store_model.specs.State.{Standing, Stage, durable, opened, protected_in};
 ghost use Rattle.store_model.specs.Step.{IsDue, meant};
 ghost use Rattle.store_model.specs.History.{Origin, IsLegal, after};
-ghost use Rattle.store_model.specs.Sound.{AreComplete, IsActivated, IsInPhase, IsInRoom, IsSound, IsStanding, IsWellFormed, KnowsExactly};
+ghost use Rattle.store_model.specs.History.Beginning.{Lasted};
+ghost use Rattle.image_layout.specs.declared.geometry.Geometry.{Geometry as GeometryOf};
+ghost use Rattle.store_model.specs.Sound.{AreComplete, IsActivated, IsInPhase, IsInRoom, IsSound, IsStanding, IsWellFormed, KnowsExactly, RunsItsSystem};
 
 /// No blob is stored twice, claimed twice, or claimed and stored; a lane has one claim at most; and all
-/// that is stored or has room fits. So what lasts can begin again, also what a broken call meant.
+/// that is stored or has room fits.
 pub fn stock_and_claims_stay_in_room()
-    ensures room { (origin : Origin) (history : List EventOf) → IsWellFormed origin → IsLegal origin history
+    ensures { (origin : Origin) (history : List EventOf) → IsWellFormed origin → IsLegal origin history
         → IsInRoom origin.geometry (after origin history).stock (after origin history).claims }
+{}
+
+/// What lasts after each legal history can begin again, also what a call meant whose write failed; and
+/// what begins is what lasted.
+pub fn what_lasts_can_begin()
     ensures lasts { (origin : Origin) (history : List EventOf) → IsWellFormed origin → IsLegal origin history
         → IsStanding origin.geometry (durable (after origin history)) }
     ensures meant { (origin : Origin) (history : List EventOf) (e : EventOf) → IsWellFormed origin
         → IsLegal origin history → IsDue (after origin history) (length history + 1) e → e.broke ≡ true
         → IsStanding origin.geometry (meant (after origin history) (length history + 1) e.lane e.act) }
+    ensures begins { (g : GeometryOf) (d : Standing) → IsStanding g d → durable (opened g d) ≡ d }
 {}
 
 /// After each legal history the books know each protected package that is stored, and no other.
@@ -42,11 +50,14 @@ pub fn updates_stay_safe()
         → IfSome (after origin history).staged (IsActivated (after origin history)) }
 {}
 
-/// Once the boot is over, the same slot runs.
-pub fn running_slot_stays()
-    ensures { (origin : Origin) (history more : List EventOf) → IsLegal origin (history ++ more)
+/// Once the boot is over, the same slot runs. After a boot of A or B its base is that of the slot's system.
+pub fn running_system_stays()
+    ensures slot { (origin : Origin) (history more : List EventOf) → IsLegal origin (history ++ more)
         → (after origin history).booted ≡ true
         → (after origin (history ++ more)).running ≡ (after origin history).running }
+    ensures base { (g : GeometryOf) (d : Standing) (history : List EventOf)
+        → IsLegal (record { geometry = g; beginning = Lasted d }) history
+        → RunsItsSystem (after (record { geometry = g; beginning = Lasted d }) history) }
 {}
 
 /// The state after each legal history is sound, the empty one and those in which a write failed included.
