@@ -10,3 +10,4 @@ pub mod SoundPackages
 pub mod SoundUpdates
 pub mod SoundSlots
 pub mod SoundBase
+pub mod SoundFiles

@@ -12,16 +12,21 @@ use Rattle.abr_record.specs.declared.Slot.{Slot}
 use Rattle.abr_record.specs.Boot.{is_bootable}
 use Rattle.image_layout.specs.declared.Sys.{Sys}
 use Rattle.std.proofs.lemmas.Bool.{true≢false}
-use Rattle.store_model.specs.State.{opened, Standing, protected_in, Stage, State, durable, claim_of}
+use Rattle.store_model.specs.State.{is_stored, opened, Standing, protected_in, Stage, State, durable, claim_of}
 use Rattle.store_model.specs.Step.{IsActDue, IsActDueIf, MayWrite, IsDue, next, next_broken, is_boot, meant, step}
 use Rattle.store_model.specs.History.{Beginning, Origin, start, IsLegalFrom, IsLegal, after_from, after}
 use Rattle.store_model.specs.History.Beginning.{Lasted, Factory}
-use Rattle.store_model.specs.Sound.{HaveSystems, KnowsExactly, AreComplete, IsActivated, IsInPhase, IsSound, RunsItsSystem, IsStanding, IsWellFormed, IsInRoom, CanBegin}
+use Rattle.store_model.specs.Sound.{HaveSystems, KnowsExactly, AreComplete, IsActivated, IsInPhase, IsSound, RunsItsSystem, IsSameFile, IsStanding, IsWellFormed, IsInRoom, CanBegin}
 use Rattle.fetch_queue.specs.declared.FetchEnd.{FetchEnd}
 use Rattle.store_model.proofs.Frames.{keeps_next}
 use Rattle.store_model.proofs.SoundSteps.{InRoom, some_and, room_next, room_step}
 use Rattle.store_model.proofs.SoundBooks.{knows_exactly, knows_nothing}
 use Rattle.store_model.proofs.SoundPackages.{complete_step}
+use Rattle.pkg_names.specs.declared.root.Root.{Root}
+use Rattle.open_tracker.specs.Directories.{root_of}
+use Rattle.store_model.specs.Files.{found}
+use Rattle.store_model.specs.Files.Found.{Outer}
+use Rattle.store_model.proofs.SoundFiles.{outer_there, same_file, named_stays}
 use Rattle.store_model.proofs.SoundBase.{base_step}
 use Rattle.store_model.proofs.SoundSlots.{have_next, have_step}
 use Rattle.store_model.proofs.SoundUpdates.{IsUpdateSound, updates_step}
@@ -263,3 +268,12 @@ runs_on origin history more legal booted = runs_from (start origin) 1 history mo
 pub runs_its_system : (g : Geometry) (d : Standing) (history : List Event) → IsLegal (record { geometry = g; beginning = Lasted d }) history → RunsItsSystem (after (record { geometry = g; beginning = Lasted d }) history)
 runs_its_system g d history legal =
     holds_from RunsItsSystem base_step (opened g d) 1 history (record { base = λ never. absurd (true≢false never) }) legal
+
+-- ---- the files of open packages
+
+pub files_there : (origin : Origin) (history : List Event) → IsLegal origin history → (lane dir : ℕ) (file : List ℕ) (root : Root) → found (after origin history) lane dir file ≡ Outer root → is_stored (after origin history).stock root ≡ true
+files_there origin history legal = outer_there (after origin history) (complete_after origin history legal)
+
+pub files_stay : (origin : Origin) (history : List Event) (e : Event) → IsLegal origin history → IsDue (after origin history) (length history + 1) e → (lane dir : ℕ) (top : Root) → root_of (after origin history).dirs dir lane ≡ Some top
+    → root_of (step (after origin history) (length history + 1) e).dirs dir lane ≡ Some top → (file : List ℕ) → IsSameFile (after origin history) (step (after origin history) (length history + 1) e) lane dir file
+files_stay origin history e legal due = same_file (after origin history) (length history + 1) e due (complete_after origin history legal)

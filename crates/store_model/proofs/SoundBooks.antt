@@ -78,7 +78,7 @@ long_same books (blob ∷ stock) root known =
     (long_same books stock root known)
 
 -- what the books know of a package stays as it is while an event looks at blobs
-all_same : (books : Books) (seen : List LookedAt) (stock : List Stored) (root : Root) → Knows root books → book_at (with_long (with_looked books seen) stock) root ≡ book_at books root
+pub all_same : (books : Books) (seen : List LookedAt) (stock : List Stored) (root : Root) → Knows root books → book_at (with_long (with_looked books seen) stock) root ≡ book_at books root
 all_same books seen stock root known =
     let looked = looked_same books seen root known in
     long_same (with_looked books seen) stock root (ap (λ (m : Option Meta). is_some m) looked ∙ known) ∙ looked
@@ -88,7 +88,7 @@ all_same books seen stock root known =
 pub contains_has : (roots : List Root) (root : Root) → Contains roots root → has_root roots root ≡ true
 contains_has roots root c = list_any_at (λ other. root_eq other root) roots c.0 root c.1 (root_eq-same _ root c.2)
 
-all_pass : (p : Root → Bool) (roots : List Root) (root : Root) → list_all p roots ≡ true → has_root roots root ≡ true → p root ≡ true
+pub all_pass : (p : Root → Bool) (roots : List Root) (root : Root) → list_all p roots ≡ true → has_root roots root ≡ true → p root ≡ true
 all_pass p [] root all among = absurd cc
 all_pass p (other ∷ roots) root all among =
     let parts = and_parts (p other) (list_all p roots) all in
@@ -138,7 +138,7 @@ complete_same books others stock root same complete =
     (ap (λ (m : Option Meta). is_some (option_and_then (λ meta. the_book (book_of meta)) m)) same ∙ parts.0)
     (ap (list_all (is_stored stock)) (names_same root others books same) ∙ parts.1)
 
-complete_known : (books : Books) (stock : List Stored) (root : Root) → complete_in books stock root ≡ true → Knows root books
+pub complete_known : (books : Books) (stock : List Stored) (root : Root) → complete_in books stock root ≡ true → Knows root books
 complete_known books stock root complete = known (book_at books root) (and_parts (is_some (known_book books root)) (list_all (is_stored stock) (names root books)) complete).0 where
   known : (m : Option Meta) → is_some (option_and_then (λ meta. the_book (book_of meta)) m) ≡ true → is_some m ≡ true
   known None e = e
@@ -182,7 +182,7 @@ stored_more (other ∷ stock) blob root stored =
       | inr differs ↦ rw differs (stored_more stock blob root (rw differs at stored))
     ]
 
-stored_left : (stock : List Stored) (roots : List Root) (root : Root) → is_stored stock root ≡ true → has_root roots root ≡ false → is_stored (without_blobs stock roots) root ≡ true
+pub stored_left : (stock : List Stored) (roots : List Root) (root : Root) → is_stored stock root ≡ true → has_root roots root ≡ false → is_stored (without_blobs stock roots) root ≡ true
 stored_left [] roots root stored stays = absurd cc
 stored_left (blob ∷ stock) roots root stored stays =
     elim (cases_Bool (root_eq blob.root root)) [
@@ -195,7 +195,7 @@ stored_left (blob ∷ stock) roots root stored stays =
           ]
     ]
 
-named_by : (tops : List Root) (books : Books) (top root : Root) → has_root tops top ≡ true → has_root (names top books) root ≡ true → is_named tops books root ≡ true
+pub named_by : (tops : List Root) (books : Books) (top root : Root) → has_root tops top ≡ true → has_root (names top books) root ≡ true → is_named tops books root ≡ true
 named_by [] books top root among named = absurd cc
 named_by (other ∷ tops) books top root among named =
     elim (or_cases (root_eq other top) (has_root tops top) among) [
@@ -203,7 +203,7 @@ named_by (other ∷ tops) books top root among named =
       | inr later ↦ or_right (has_root (names other books) root) (is_named tops books root) (named_by tops books top root later named)
     ]
 
-not_left : (p : Root → Bool) (roots : List Root) (root : Root) → p root ≡ true → has_root (filter (λ r. not (p r)) roots) root ≡ false
+pub not_left : (p : Root → Bool) (roots : List Root) (root : Root) → p root ≡ true → has_root (filter (λ r. not (p r)) roots) root ≡ false
 not_left p [] root named = refl
 not_left p (other ∷ roots) root named =
     elim (cases_Bool (p other)) [

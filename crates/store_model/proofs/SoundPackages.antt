@@ -39,7 +39,7 @@ use Rattle.store_model.proofs.SoundSystems.{IsGood, good_system}
 
 -- ---- which packages are protected
 
-abbrev Protected : State → Root → Type 0
+abbrev pub Protected : State → Root → Type 0
 Protected s root = has_root (protected_in s) root ≡ true
 
 abbrev arriving_roots : State → List Root
@@ -103,7 +103,7 @@ all_active s = All-weaker (λ (pair : Pinned). has_root (roots_of s.active) pair
 all_arriving : (s : State) → All (λ (a : Arrival). Protected s a.root) s.arriving
 all_arriving s = All-weaker (λ (a : Arrival). has_root (arriving_roots s) a.root ≡ true) (λ (a : Arrival). Protected s a.root) (λ a h. by_arriving s a.root h) s.arriving (each_in (λ (a : Arrival). a.root) s.arriving)
 
-all_dirs : (s : State) → All (λ (d : DirEntry). Protected s d.root) s.dirs
+pub all_dirs : (s : State) → All (λ (d : DirEntry). Protected s d.root) s.dirs
 all_dirs s = All-weaker (λ (d : DirEntry). has_root (dir_roots s) d.root ≡ true) (λ (d : DirEntry). Protected s d.root) (λ d h. by_dirs s d.root h) s.dirs (each_in (λ (d : DirEntry). d.root) s.dirs)
 
 -- ---- a package that is protected and complete before an event
@@ -113,7 +113,7 @@ pub record Was (s : State) (root : Root) : Type 0 where
   pub complete : is_complete s root ≡ true
 
 -- an act leaves stored what a protected package names
-collects : (s : State) (roots : List Root) → ◌≡◌ {A = Option (List Root)} (Some roots) (collect_answer s) → roots ≡ rest s
+pub collects : (s : State) (roots : List Root) → ◌≡◌ {A = Option (List Root)} (Some roots) (collect_answer s) → roots ≡ rest s
 collects s roots e = go (is_committed s) e where
   go : (test : Bool) → ◌≡◌ {A = Option (List Root)} (Some roots) (cond test (Some (rest s)) None) → roots ≡ rest s
   go true same = cc
@@ -132,7 +132,7 @@ names_stay_if : (s : State) (number lane : ℕ) (act : Act) (broke : Bool) → I
 names_stay_if s number lane act true due top root among named stored = stored
 names_stay_if s number lane act false due top root among named stored = names_stay s number lane act due top root among named stored
 
-books_if : (s : State) (number lane : ℕ) (act : Act) (broke : Bool) → (cond broke (next_broken s number act) (next s number lane act)).books ≡ s.books
+pub books_if : (s : State) (number lane : ℕ) (act : Act) (broke : Bool) → (cond broke (next_broken s number act) (next s number lane act)).books ≡ s.books
 books_if s number lane act true = refl
 books_if s number lane act false = books_next s number lane act
 
@@ -268,7 +268,7 @@ still_ready s number e due root was =
     let same : complete_in n.books n.stock root ≡ true = rw (books_if s number e.lane e.act e.broke) stays in
     complete_looked n.books (seen_by e.act) n.stock root same
 
-abbrev after_if : State → ℕ → ℕ → Act → Bool → State
+abbrev pub after_if : State → ℕ → ℕ → Act → Bool → State
 after_if s number lane act broke = cond broke (next_broken s number act) (next s number lane act)
 
 base_if : (s : State) (number lane : ℕ) (act : Act) (broke : Bool) → ((root : Root) → Was s root → IsReady (seen_by act) (after_if s number lane act broke) root) → AreComplete s

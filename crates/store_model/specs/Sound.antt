@@ -17,6 +17,7 @@ use Rattle.store_model.specs.State.{Stored, Standing, State, Phase, Stage, stock
 use Rattle.store_model.specs.State.Phase.{Filling, Sealed, Done}
 use Rattle.store_model.specs.Packages.{stock_pages, claim_pages, is_complete}
 use Rattle.store_model.specs.Settling.{KnowsAll}
+use Rattle.store_model.specs.Files.{found, found_len}
 use Rattle.store_model.specs.History.{Beginning, Origin}
 use Rattle.store_model.specs.History.Beginning.{Lasted, Factory}
 
@@ -73,6 +74,11 @@ pub record AreComplete (s : State) : Type 0 where
   pub base : All (λ (pair : Pinned). is_complete s pair.root ≡ true) s.base
   pub active : All (λ (pair : Pinned). is_complete s pair.root ≡ true) s.active
   pub dirs : All (λ (dir : DirEntry). is_complete s dir.root ≡ true) s.dirs
+
+-- the lane's file is found as before, and has its length
+pub record IsSameFile (old new : State) (lane dir : ℕ) (file : List ℕ) : Type 0 where
+  pub same : found new lane dir file ≡ found old lane dir file
+  pub len : found_len new (found new lane dir file) ≡ found_len old (found old lane dir file)
 
 -- ---- slots and updates
 

@@ -23,6 +23,7 @@ pub use replies::{
     StageReply, Ticket, WantReply,
 };
 pub use sound_laws::{
-    books_know_what_is_protected, histories_are_sound, packages_stay_complete,
-    running_system_stays, stock_and_claims_stay_in_room, updates_stay_safe, what_lasts_can_begin,
+    books_know_what_is_protected, histories_are_sound, named_blobs_stay, open_files_stay,
+    packages_stay_complete, running_system_stays, stock_and_claims_stay_in_room, updates_stay_safe,
+    what_lasts_can_begin,
 };

@@ -1,13 +1,18 @@
 //! What holds after each legal history, each the contract of a function that does nothing.
 
-ghost use Rattle.std.specs.Prelude.{◌≡◌, ℕ, ◌+◌, ◌++◌, true, List, length, IfSome};
+ghost use Rattle.std.specs.Prelude.{◌≡◌, ℕ, ◌+◌, ◌++◌, true, List, length, Some, IfSome};
 ghost use Rattle.store_model.specs.declared.events.Event.{Event as EventOf};
-ghost use Rattle.store_model.specs.State.{Standing, Stage, durable, opened, protected_in};
-ghost use Rattle.store_model.specs.Step.{IsDue, meant};
+ghost use Rattle.pkg_names.specs.declared.root.Root.{Root as RootOf};
+ghost use Rattle.open_tracker.specs.Directories.{root_of};
+ghost use Rattle.package_book.specs.Names.{names};
+ghost use Rattle.store_model.specs.Files.{found};
+ghost use Rattle.store_model.specs.Files.Found.{Outer};
+ghost use Rattle.store_model.specs.State.{Standing, Stage, State, durable, has_root, is_stored, opened, protected_in, stored_len};
+ghost use Rattle.store_model.specs.Step.{IsDue, meant, step};
 ghost use Rattle.store_model.specs.History.{Origin, IsLegal, after};
 ghost use Rattle.store_model.specs.History.Beginning.{Lasted};
 ghost use Rattle.image_layout.specs.declared.geometry.Geometry.{Geometry as GeometryOf};
-ghost use Rattle.store_model.specs.Sound.{AreComplete, IsActivated, IsInPhase, IsInRoom, IsSound, IsStanding, IsWellFormed, KnowsExactly, RunsItsSystem};
+ghost use Rattle.store_model.specs.Sound.{AreComplete, IsActivated, IsInPhase, IsInRoom, IsSound, IsStanding, IsWellFormed, KnowsExactly, RunsItsSystem, IsSameFile};
 
 /// No blob is stored twice, claimed twice, or claimed and stored; a lane has one claim at most; and all
 /// that is stored or has room fits.
@@ -38,6 +43,26 @@ pub fn books_know_what_is_protected()
 pub fn packages_stay_complete()
     ensures { (origin : Origin) (history : List EventOf) → IsLegal origin history
         → AreComplete (after origin history) }
+{}
+
+/// What a protected package names stays stored, with its length, whatever event is due.
+pub fn named_blobs_stay()
+    ensures { (s : State) (number : ℕ) (e : EventOf) → IsDue s number e → (top root : RootOf) (len : ℕ)
+        → has_root (protected_in s) top ≡ true → has_root (names top s.books) root ≡ true
+        → stored_len s.stock root ≡ Some len → stored_len (step s number e).stock root ≡ Some len }
+{}
+
+/// A file of an open package that is a blob of its own is stored. All files of a directory that stays open
+/// stay as they are.
+pub fn open_files_stay()
+    ensures there { (origin : Origin) (history : List EventOf) → IsLegal origin history
+        → (lane dir : ℕ) (file : List ℕ) (root : RootOf) → found (after origin history) lane dir file ≡ Outer root
+        → is_stored (after origin history).stock root ≡ true }
+    ensures same { (origin : Origin) (history : List EventOf) (e : EventOf) → IsLegal origin history
+        → IsDue (after origin history) (length history + 1) e → (lane dir : ℕ) (top : RootOf)
+        → root_of (after origin history).dirs dir lane ≡ Some top
+        → root_of (step (after origin history) (length history + 1) e).dirs dir lane ≡ Some top → (file : List ℕ)
+        → IsSameFile (after origin history) (step (after origin history) (length history + 1) e) lane dir file }
 {}
 
 /// After each legal history, what an update is about to fill or has sealed can't be booted, and what it has
