@@ -1,9 +1,17 @@
 pub mod Histories
 pub mod Knowing
-pub mod SoundRoom
+pub mod LanesLasting
+mod LanesLists
+pub mod LanesMarks
+pub mod LanesOnce
+pub mod LanesApart
+pub mod LanesKept
+pub mod LanesQuiet
+pub mod LanesDue
+pub mod LanesSpared
 pub mod Frames
+pub mod SoundRoom
 pub mod SoundSteps
-pub mod Sound
 pub mod SoundBooks
 pub mod SoundSystems
 pub mod SoundPackages
@@ -11,3 +19,4 @@ pub mod SoundUpdates
 pub mod SoundSlots
 pub mod SoundBase
 pub mod SoundFiles
+pub mod Sound

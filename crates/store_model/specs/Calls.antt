@@ -9,6 +9,7 @@ use Rattle.package_indexes.specs.declared.Choice.{Choice}
 use Rattle.pkg_names.specs.NameAndVariant.{NameAndVariant}
 use Rattle.pkg_names.specs.declared.root.Root.{Root}
 use Rattle.pkg_merkle.specs.Merkle.{merkle_root}
+use Rattle.open_tracker.specs.Directories.{root_of}
 use Rattle.fetch_queue.specs.declared.FetchEnd.{FetchEnd}
 use Rattle.fetch_queue.specs.declared.FetchEnd.TheVariants as ends
 use Rattle.system_lists.specs.declared.fault.ManifestFile.{ManifestFile}
@@ -53,14 +54,15 @@ use Rattle.store_model.specs.declared.replies.RejectReply.{RejectReply}
 use Rattle.store_model.specs.declared.replies.RejectReply.TheVariants as reject
 use Rattle.store_model.specs.declared.replies.Claim.{Claim}
 use Rattle.store_model.specs.declared.replies.Ticket.{Ticket}
-use Rattle.store_model.specs.State.{State, Phase}
-use Rattle.store_model.specs.Acts.Seal.{sum_in}
+use Rattle.store_model.specs.State.{State, Phase, Arrival, arrival_of}
+use Rattle.store_model.specs.Packages.{known_fault}
+use Rattle.store_model.specs.Acts.Copy.{copy_end}
 use Rattle.store_model.specs.Files.{Found, found, found_len}
 use Rattle.store_model.specs.Files.Found.{NotOpen, NoSuchFile, Inner, Outer}
 use Rattle.store_model.specs.Holding.{HeldTicket, HeldClaim, Held, ticket_with}
 use Rattle.store_model.specs.Quiet.{IsQuiet}
 use Rattle.store_model.specs.Replies.{Acts, IsBegun, IsWanted, IsRoom, IsPut, IsLanded, IsOpened, IsRead, IsChecked, IsClosed, IsCollected, IsRetained, IsStaged, IsCopied, IsSealed, IsActivated, IsCommitted, IsRejected}
-use Rattle.store_model.specs.Desk.{View, Fillers, state_of, held_by, Does, Rests, Keeping, Keeps, KeepsImages, KeepsBlob, Appends, OfKept, filler_of, with_filler, filler_after, no_fillers}
+use Rattle.store_model.specs.Desk.{View, Fillers, state_of, held_by, IsUnbroken, Does, Rests, Keeping, Keeps, KeepsImages, KeepsBlob, Appends, OfKept, filler_of, with_filler, filler_after, no_fillers}
 use Rattle.store_model.specs.Desk.Keeping.{Blob, Image}
 
 -- ---- what a lane has to hold
@@ -110,11 +112,18 @@ abbrev pub Begins : NameAndVariant → Choice → BeginReply → View → View �
 Begins path choice begin.NoMemory old new = Rests old new
 Begins path choice reply old new = Does old new (IsBegun path choice reply)
 
--- The lane has to wait exactly where this is quiet, since no other answer is due there.
+-- the package has no mark, and isn't known to be none
+abbrev MayGoOn : State → ℕ → Type 0
+MayGoOn s ticket =
+    IsSomeAnd (arrival_of s.arriving ticket)
+    (λ (arrival : Arrival). (arrival.mark ≡ None) × (known_fault s.books arrival.root ≡ None))
+
+-- The lane has to wait exactly where this is quiet, since no other answer is due there. That a package
+-- has failed is told without memory.
 abbrev pub Wants : Ticket → WantReply → View → View → Type 0
 Wants ticket (want.NotYet back bell) old new =
-    Rests old new × (back ≡ ticket) × IsQuiet (state_of new) old.lane ticket.number
-Wants ticket (want.NoMemory back) old new = Rests old new × (back ≡ ticket)
+    Rests old new × (back ≡ ticket) × IsUnbroken new × IsQuiet (state_of new) old.lane ticket.number
+Wants ticket (want.NoMemory back) old new = Rests old new × (back ≡ ticket) × MayGoOn (state_of new) ticket.number
 Wants ticket (want.Fetch back claim) old new =
     Does old new (IsWanted ticket.number (want.Fetch back claim)) × (back ≡ ticket)
 Wants ticket reply old new = Does old new (IsWanted ticket.number reply)
@@ -136,7 +145,7 @@ KeepsAtRoom (room.NoMemory back) before after = Keeps before after
 KeepsAtRoom reply before after = KeepsImages before after
 
 abbrev pub Puts : Claim → PutReply → View → View → Type 0
-Puts claim (put.Taken back) old new = Rests old new × (back ≡ claim)
+Puts claim (put.Taken back) old new = Rests old new × (back ≡ claim) × IsUnbroken new
 Puts claim reply old new = Does old new (IsPut claim.root reply)
 
 -- Bytes are taken where they fit behind those that were kept, and then kept too. They are too many
@@ -189,8 +198,9 @@ abbrev pub Checks : ℕ → List ℕ → CheckReply → View → View → Type 0
 Checks dir file check.NoMemory old new = Rests old new
 Checks dir file reply old new = Does old new (IsChecked dir file reply)
 
+-- an open directory is closed without memory
 abbrev pub Closes : ℕ → CloseReply → View → View → Type 0
-Closes dir close.NoMemory old new = Rests old new
+Closes dir close.NoMemory old new = Rests old new × (root_of (state_of new).dirs dir old.lane ≡ None)
 Closes dir reply old new = Does old new (IsClosed dir reply)
 
 -- ---- the store as a whole
@@ -218,8 +228,8 @@ fillers_at_stage (stage.Turn slot) fillers = no_fillers
 fillers_at_stage reply fillers = fillers
 
 abbrev pub Copies : ImageKind → ℕ → List ℕ → CopyReply → View → View → Type 0
-Copies image dir file (copy.More have) old new = Rests old new
-Copies image dir file (copy.Whole len) old new = Rests old new
+Copies image dir file (copy.More have) old new = Rests old new × IsUnbroken new
+Copies image dir file (copy.Whole len) old new = Rests old new × IsUnbroken new
 Copies image dir file copy.NoMemory old new = Rests old new
 Copies image dir file reply old new = Does old new (IsCopied image dir file reply)
 
@@ -249,22 +259,24 @@ pub record CopiesPart (image : ImageKind) (file : Found) (len have : ℕ) (old n
   pub blob : KeepsBlob before after
   pub other : (kind : ImageKind) (bytes : List ℕ) → kind ≢ image → before (Image kind) bytes → after (Image kind) bytes
 
--- There is more of the file exactly where its length isn't reached.
+-- The file is there and fits the image. There is more of it exactly where its length isn't reached.
 abbrev pub KeepsAtCopy : State → ℕ → ImageKind → ℕ → List ℕ → CopyReply → Fillers → Fillers → (Keeping → List ℕ → Type 0) → (Keeping → List ℕ → Type 0) → Type 0
 KeepsAtCopy s lane image dir file (copy.More have) old new before after =
     (len : ℕ) × (found_len s (found s lane dir file) ≡ Some len) × (have < len)
+    × (copy_end s lane image dir file ≡ None)
     × CopiesPart image (found s lane dir file) len have old new before after
 KeepsAtCopy s lane image dir file (copy.Whole have) old new before after =
     (len : ℕ) × (found_len s (found s lane dir file) ≡ Some len) × (len ≤ have)
+    × (copy_end s lane image dir file ≡ None)
     × CopiesPart image (found s lane dir file) len have old new before after
 KeepsAtCopy s lane image dir file (copy.Broken broken) old new before after = KeepsBlob before after × (new ≡ old)
 KeepsAtCopy s lane image dir file reply old new before after = Keeps before after × (new ≡ old)
 
--- an image that one file alone has filled to its end has the file's root
+-- an image that one file alone has filled to its end stands for bytes with the file's root
 abbrev pub IsWholeFile : ImageKind → CopyReply → Fillers → (Keeping → List ℕ → Type 0) → Type 0
 IsWholeFile image (copy.Whole len) fillers after =
     (root : Root) → filler_of fillers image ≡ Some root
-    → OfKept after (Image image) (λ bytes. merkle_root bytes ≡ root)
+    → (bytes : List ℕ) × after (Image image) bytes × (merkle_root bytes ≡ root)
 IsWholeFile image reply fillers after = Unit {0}
 
 abbrev pub Seals : Sys → SealReply → View → View → Type 0

@@ -8,7 +8,7 @@ use Rattle.pkg_names.specs.Root.{root_eq}
 use Rattle.store_model.specs.declared.events.Event.{Event}
 use Rattle.store_model.specs.State.{State}
 use Rattle.store_model.specs.Step.{IsDue}
-use Rattle.store_model.specs.History.{Origin, IsLegal, Numbered, after}
+use Rattle.store_model.specs.History.{Origin, IsLegal, Numbered, after, of_lane}
 use Rattle.store_model.specs.Holding.{Held, held}
 
 -- the files that alone have filled the two images, from their first byte on
@@ -35,6 +35,10 @@ state_of v = after v.origin v.seen
 -- what the lane holds
 abbrev pub held_by : View → Held
 held_by v = held v.mine
+
+-- no write has failed that the lane knows of
+abbrev pub IsUnbroken : View → Type 0
+IsUnbroken v = (state_of v).broken ≡ None
 
 -- the number of the next event
 abbrev next_number : List Event → ℕ
@@ -64,6 +68,7 @@ pub record Does (old new : View) (IsIts : ℕ → Event → Type 0) : Type 0 whe
   pub mine : new.mine
       ≡ old.mine ++ record { number = next_number (old.seen ++ others); event = event } ∷ []
   pub due : IsDue (after old.origin (old.seen ++ others)) (next_number (old.seen ++ others)) event
+  pub own : new.mine ≡ of_lane new.lane new.seen
   pub legal : IsLegal new.origin new.seen
 
 -- the call made no event
@@ -73,6 +78,7 @@ pub record Rests (old new : View) : Type 0 where
   pub are_others : AreOthers old.lane others
   pub seen : new.seen ≡ old.seen ++ others
   pub mine : new.mine ≡ old.mine
+  pub own : new.mine ≡ of_lane new.lane new.seen
   pub legal : IsLegal new.origin new.seen
 
 -- ---- what a call does to the bytes that are kept

@@ -12,4 +12,5 @@ pub mod Holding
 pub mod Replies
 pub mod Desk
 pub mod Calls
+pub mod Lanes
 pub mod Sound

@@ -1,6 +1,6 @@
 //! What a lane's desk at the store promises.
 
-ghost use Rattle.std.specs.Prelude.{◌≡◌, ℕ, ◌≤◌, List, length};
+ghost use Rattle.std.specs.Prelude.{◌≡◌, ◌↔◌, ℕ, ◌≤◌, List, length};
 ghost use Rattle.store_model.specs.declared.ends.TheConstants.{PIECE_LIMIT};
 ghost use Rattle.store_model.specs.State.Phase.{Filling};
 ghost use Rattle.store_model.specs.Desk.{View, Keeping, state_of, Does, Rests, Keeps, KeepsImages, KeepsBlob};
@@ -39,7 +39,7 @@ pub trait Desk {
         ensures event { Begins path.now choice result (view self.old) (view self.new) }
         ensures kept { Keeps (kept self.old) (kept self.new) }
         ensures fillers { (view self.new).fillers ≡ (view self.old).fillers }
-        ensures firm { firm self.old → firm self.new };
+        ensures firm { firm self.old ↔ firm self.new };
 
     /// Asks what is missing of a package that arrives.
     fn want(&mut self, ticket: Ticket) -> WantReply
@@ -48,7 +48,7 @@ pub trait Desk {
         ensures event { Wants ticket result (view self.old) (view self.new) }
         ensures kept { KeepsAtWant result (kept self.old) (kept self.new) }
         ensures fillers { (view self.new).fillers ≡ (view self.old).fillers }
-        ensures firm { firm self.old → firm self.new };
+        ensures firm { firm self.old ↔ firm self.new };
 
     /// Makes room for a blob of this length.
     fn room(&mut self, claim: Claim, len: u64) -> RoomReply
@@ -56,7 +56,7 @@ pub trait Desk {
         ensures event { MakesRoom claim len result (view self.old) (view self.new) }
         ensures kept { KeepsAtRoom result (kept self.old) (kept self.new) }
         ensures fillers { (view self.new).fillers ≡ (view self.old).fillers }
-        ensures firm { firm self.old → firm self.new };
+        ensures firm { firm self.old ↔ firm self.new };
 
     /// Takes the next bytes of a blob.
     fn put(&mut self, claim: Claim, bytes: &[u8]) -> PutReply
@@ -65,7 +65,7 @@ pub trait Desk {
         ensures event { Puts claim result (view self.old) (view self.new) }
         ensures kept { KeepsAtPut (room_by (view self.old)) bytes.now result (kept self.old) (kept self.new) }
         ensures fillers { (view self.new).fillers ≡ (view self.old).fillers }
-        ensures firm { firm self.old → firm self.new };
+        ensures firm { firm self.old ↔ firm self.new };
 
     /// Stores a blob whose bytes are there.
     fn land(&mut self, claim: Claim) -> LandReply
@@ -73,7 +73,7 @@ pub trait Desk {
         ensures event { Lands claim (kept self.old) result (view self.old) (view self.new) }
         ensures kept { KeepsAtLand claim.root (room_by (view self.old)) result (kept self.old) (kept self.new) }
         ensures fillers { (view self.new).fillers ≡ (view self.old).fillers }
-        ensures firm { firm self.old → firm self.new };
+        ensures firm { firm self.old ↔ firm self.new };
 
     /// Ends a claim without its bytes.
     fn miss(&mut self, claim: Claim, why: Miss)
@@ -81,7 +81,7 @@ pub trait Desk {
         ensures event { Does (view self.old) (view self.new) (IsMissed claim.root why) }
         ensures kept { KeepsImages (kept self.old) (kept self.new) }
         ensures fillers { (view self.new).fillers ≡ (view self.old).fillers }
-        ensures firm { firm self.old → firm self.new };
+        ensures firm { firm self.old ↔ firm self.new };
 
     /// Ends a ticket.
     fn give_up(&mut self, ticket: Ticket)
@@ -89,42 +89,42 @@ pub trait Desk {
         ensures event { Does (view self.old) (view self.new) (IsGivenUp ticket.number) }
         ensures kept { Keeps (kept self.old) (kept self.new) }
         ensures fillers { (view self.new).fillers ≡ (view self.old).fillers }
-        ensures firm { firm self.old → firm self.new };
+        ensures firm { firm self.old ↔ firm self.new };
 
     /// Opens a package that is here.
     fn open_path(&mut self, path: &PackagePath) -> OpenReply
         ensures event { Opens path.now result (view self.old) (view self.new) }
         ensures kept { Keeps (kept self.old) (kept self.new) }
         ensures fillers { (view self.new).fillers ≡ (view self.old).fillers }
-        ensures firm { firm self.old → firm self.new };
+        ensures firm { firm self.old ↔ firm self.new };
 
     /// Reads a file whole.
     fn read(&mut self, dir: Dir, file: &FilePath) -> ReadReply
         ensures event { Reads dir.number file.now result (view self.old) (view self.new) }
         ensures kept { Keeps (kept self.old) (kept self.new) }
         ensures fillers { (view self.new).fillers ≡ (view self.old).fillers }
-        ensures firm { firm self.old → firm self.new };
+        ensures firm { firm self.old ↔ firm self.new };
 
     /// Reads a file and tells its root.
     fn check(&mut self, dir: Dir, file: &FilePath) -> CheckReply
         ensures event { Checks dir.number file.now result (view self.old) (view self.new) }
         ensures kept { Keeps (kept self.old) (kept self.new) }
         ensures fillers { (view self.new).fillers ≡ (view self.old).fillers }
-        ensures firm { firm self.old → firm self.new };
+        ensures firm { firm self.old ↔ firm self.new };
 
     /// Closes a directory.
     fn close(&mut self, dir: Dir) -> CloseReply
         ensures event { Closes dir.number result (view self.old) (view self.new) }
         ensures kept { Keeps (kept self.old) (kept self.new) }
         ensures fillers { (view self.new).fillers ≡ (view self.old).fillers }
-        ensures firm { firm self.old → firm self.new };
+        ensures firm { firm self.old ↔ firm self.new };
 
     /// Removes what no protected package names.
     fn collect(&mut self) -> CollectReply
         ensures event { Collects result (view self.old) (view self.new) }
         ensures kept { Keeps (kept self.old) (kept self.new) }
         ensures fillers { (view self.new).fillers ≡ (view self.old).fillers }
-        ensures firm { firm self.old → firm self.new };
+        ensures firm { firm self.old ↔ firm self.new };
 
     /// Retains these packages and no others.
     fn retain(&mut self, roots: &[Root]) -> RetainReply
@@ -132,14 +132,14 @@ pub trait Desk {
         ensures event { Retains roots.now result (view self.old) (view self.new) }
         ensures kept { Keeps (kept self.old) (kept self.new) }
         ensures fillers { (view self.new).fillers ≡ (view self.old).fillers }
-        ensures firm { firm self.old → firm self.new };
+        ensures firm { firm self.old ↔ firm self.new };
 
     /// Begins an update to a system of this epoch.
     fn stage(&mut self, epoch: u64) -> StageReply
         ensures event { Stages epoch result (view self.old) (view self.new) }
         ensures kept { KeepsAtStage result (kept self.old) (kept self.new) }
         ensures fillers { (view self.new).fillers ≡ fillers_at_stage result (view self.old).fillers }
-        ensures firm { firm self.old → firm self.new };
+        ensures firm { firm self.old ↔ firm self.new };
 
     /// Copies the next part of a file into an image, at most 65,536 bytes.
     fn copy_part(&mut self, image: ImageKind, dir: Dir, file: &FilePath) -> CopyReply
@@ -148,7 +148,7 @@ pub trait Desk {
         ensures kept { KeepsAtCopy (state_of (view self.new)) (view self.old).lane image dir.number file.now
             result (view self.old).fillers (view self.new).fillers (kept self.old) (kept self.new) }
         ensures whole { firm self.old → IsWholeFile image result (view self.new).fillers (kept self.new) }
-        ensures firm { firm self.old → firm self.new };
+        ensures firm { firm self.old ↔ firm self.new };
 
     /// Ends the filling of the images, if they are those of this system.
     fn seal(&mut self, sys: &Sys) -> SealReply
@@ -156,7 +156,7 @@ pub trait Desk {
         ensures event { Seals sys.now result (view self.old) (view self.new) }
         ensures kept { KeepsAtSeal sys.now result (kept self.old) (kept self.new) }
         ensures fillers { (view self.new).fillers ≡ (view self.old).fillers }
-        ensures firm { firm self.old → firm self.new };
+        ensures firm { firm self.old ↔ firm self.new };
 
     /// Judges the sealed system, and has it boot next.
     fn activate(&mut self) -> ActivateReply
@@ -164,7 +164,7 @@ pub trait Desk {
         ensures event { Activates result (view self.old) (view self.new) }
         ensures kept { KeepsBlob (kept self.old) (kept self.new) }
         ensures fillers { (view self.new).fillers ≡ (view self.old).fillers }
-        ensures firm { firm self.old → firm self.new };
+        ensures firm { firm self.old ↔ firm self.new };
 
     /// Ends the update.
     fn leave_stage(&mut self)
@@ -172,26 +172,26 @@ pub trait Desk {
         ensures event { Does (view self.old) (view self.new) HasLeftStage }
         ensures kept { KeepsBlob (kept self.old) (kept self.new) }
         ensures fillers { (view self.new).fillers ≡ (view self.old).fillers }
-        ensures firm { firm self.old → firm self.new };
+        ensures firm { firm self.old ↔ firm self.new };
 
     /// Has the running system stay.
     fn commit(&mut self) -> CommitReply
         ensures event { Commits result (view self.old) (view self.new) }
         ensures kept { Keeps (kept self.old) (kept self.new) }
         ensures fillers { (view self.new).fillers ≡ (view self.old).fillers }
-        ensures firm { firm self.old → firm self.new };
+        ensures firm { firm self.old ↔ firm self.new };
 
     /// Notes that a manifest of an update is bad.
     fn reject(&mut self, file: ManifestFile, why: ManifestFault) -> RejectReply
         ensures event { Rejects file why result (view self.old) (view self.new) }
         ensures kept { Keeps (kept self.old) (kept self.new) }
         ensures fillers { (view self.new).fillers ≡ (view self.old).fillers }
-        ensures firm { firm self.old → firm self.new };
+        ensures firm { firm self.old ↔ firm self.new };
 
     /// Waits until the bell has another number.
     fn pause(&mut self, bell: u64)
         ensures none { Rests (view self.old) (view self.new) }
         ensures kept { Keeps (kept self.old) (kept self.new) }
         ensures fillers { (view self.new).fillers ≡ (view self.old).fillers }
-        ensures firm { firm self.old → firm self.new };
+        ensures firm { firm self.old ↔ firm self.new };
 }

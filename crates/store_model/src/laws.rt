@@ -7,12 +7,14 @@ ghost use Rattle.store_model.specs.Step.{IsDue, step};
 ghost use Rattle.store_model.specs.History.{Origin, IsLegal, after, GoesOn};
 ghost use Rattle.store_model.specs.Footprints.{footprint, KeepsRest};
 
+use crate::desk::RETAIN_LIMIT;
 use crate::ends::{PIECE_LIMIT, READ_LIMIT};
 
 /// The numbers that definitions cite by name.
 pub fn limits()
     ensures read { READ_LIMIT ≡ 262_144 }
     ensures piece { PIECE_LIMIT ≡ 65_536 }
+    ensures retain { RETAIN_LIMIT ≡ 4096 }
 {}
 
 /// An event changes the parts of its footprint and no others, but for the books.

@@ -6,6 +6,7 @@
 mod desk;
 mod ends;
 mod events;
+mod lane_laws;
 mod laws;
 mod replies;
 mod sound_laws;
@@ -16,6 +17,11 @@ pub use ends::{
     ReadEnd, RetainEnd, StageEnd, WantEnd,
 };
 pub use events::{Act, CallName, Event, Looked, LookedAt};
+pub use lane_laws::{
+    broken_stays, claims_are_granted_once, collections_remove_the_rest, collections_spare_what_is_held,
+    lanes_leave_each_other_alone, lanes_wait_where_it_is_quiet, marks_come_from_ends,
+    what_lasts_changes_at_few_acts,
+};
 pub use laws::{each_act_keeps_the_rest, histories_go_on, limits};
 pub use replies::{
     ActivateReply, BeginReply, CheckReply, Claim, CloseReply, CollectReply, CommitReply, CopyReply,
