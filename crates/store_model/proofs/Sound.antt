@@ -30,12 +30,10 @@ use Rattle.store_model.proofs.SoundFiles.{outer_there, same_file, named_stays}
 use Rattle.store_model.proofs.SoundBase.{base_step}
 use Rattle.store_model.proofs.SoundSlots.{have_next, have_step}
 use Rattle.store_model.proofs.SoundUpdates.{IsUpdateSound, updates_step}
-use Rattle.store_model.proofs.SoundRoom.{room_landed}
+use Rattle.store_model.specs.Lanes.{AreBlobs, AreClaims}
+use Rattle.store_model.proofs.LanesOnce.{once_start, claims_next, broken_claims, blobs_next, blobs_after}
 
--- what each step keeps
-Keeps : (State → Type 0) → Type 0
-Keeps P = (s : State) (number : ℕ) (e : Event) → IsDue s number e → P s → P (step s number e)
-
+-- what each step keeps holds after each legal history
 pub holds_from : (P : State → Type 0) → ((s : State) (number : ℕ) (e : Event) → IsDue s number e → P s → P (step s number e))
     → (s : State) (number : ℕ) (history : List Event) → P s → IsLegalFrom s number history → P (after_from s number history)
 holds_from P keeps s number [] h legal = h
@@ -46,39 +44,39 @@ holds_from P keeps s number (e ∷ es) h legal =
 
 record InRoomOf (g : Geometry) (s : State) : Type 0 where
   geometry : s.geometry ≡ g
+  claims : AreClaims s.claims s.stock
+  blobs : AreBlobs s.stock
   room : InRoom s
 
 keeps_geometry : (s : State) (number : ℕ) (e : Event) → (step s number e).geometry ≡ s.geometry
 keeps_geometry s number e = search rules
 
-none_twice : {K : Type 0} (eq : K → K → Bool) → IsDistinct eq []
-unfolding IsDistinct
-none_twice eq = tt
+claims_step : (s : State) (number : ℕ) (e : Event) → IsDue s number e → AreClaims s.claims s.stock → AreClaims (step s number e).claims (step s number e).stock
+claims_step s number e due once = by_broke e.broke due.due where
+  by_broke : (b : Bool) → IsActDueIf b s number e.lane e.act → AreClaims (cond b (next_broken s number e.act) (next s number e.lane e.act)).claims (cond b (next_broken s number e.act) (next s number e.lane e.act)).stock
+  by_broke true may = broken_claims s number e.act once
+  by_broke false act_due = claims_next s number e.lane e.act act_due once
 
 room_begins : (g : Geometry) (b : Beginning) → CanBegin g b → InRoom (start (record { geometry = g; beginning = b }))
 room_begins g (Lasted d) h =
     let pages = h.pages in
     let nodes = h.nodes in
     record {
-      stored = h.roots;
-      claimed = none_twice root_eq;
-      lanes = none_twice ◌==◌;
-      missing = All-nil _;
       lengths = h.lengths;
       rooms = All-nil _;
       pages = omega (arith, pages);
       nodes = omega (arith, nodes);
     }
 room_begins g Factory h = record {
-  stored = none_twice root_eq;
-  claimed = none_twice root_eq;
-  lanes = none_twice ◌==◌;
-  missing = All-nil _;
   lengths = All-nil _;
   rooms = All-nil _;
   pages = omega arith;
   nodes = omega arith;
 }
+
+blobs_begin : (g : Geometry) (b : Beginning) → CanBegin g b → AreBlobs (start (record { geometry = g; beginning = b })).stock
+blobs_begin g (Lasted d) h = h.blobs
+blobs_begin g Factory h = λ i j d lt past. absurd (omega (arith, past))
 
 geometry_begins : (g : Geometry) (b : Beginning) → (start (record { geometry = g; beginning = b })).geometry ≡ g
 geometry_begins g (Lasted d) = refl
@@ -87,9 +85,19 @@ geometry_begins g Factory = refl
 room_after : (origin : Origin) (history : List Event) → IsWellFormed origin → IsLegal origin history → InRoomOf origin.geometry (after origin history)
 room_after origin history begins legal =
     holds_from (InRoomOf origin.geometry)
-    (λ s number e due h. record { geometry = keeps_geometry s number e ∙ h.geometry; room = room_step s number e due h.room })
+    (λ s number e due h. record {
+      geometry = keeps_geometry s number e ∙ h.geometry;
+      claims = claims_step s number e due h.claims;
+      blobs = blobs_after s number e due h.claims h.blobs;
+      room = room_step s number e due h.claims.roots h.room;
+    })
     (start origin) 1 history
-    (record { geometry = geometry_begins origin.geometry origin.beginning; room = room_begins origin.geometry origin.beginning begins })
+    (record {
+      geometry = geometry_begins origin.geometry origin.beginning;
+      claims = (once_start origin).claims;
+      blobs = blobs_begin origin.geometry origin.beginning begins;
+      room = room_begins origin.geometry origin.beginning begins;
+    })
     legal
 
 pub in_room : (origin : Origin) (history : List Event) → IsWellFormed origin → IsLegal origin history → IsInRoom origin.geometry (after origin history).stock (after origin history).claims
@@ -158,12 +166,12 @@ same_bootable : (bootable : Bool) (sys : Option Sys) → (bootable ≡ true → 
 same_bootable true sys h = h refl
 same_bootable false sys h = refl
 
-standing_in : (g : Geometry) (s : State) → IsInRoom g s.stock s.claims → HaveSystems s → IsStanding g (durable s)
-standing_in g s h have =
+standing_in : (g : Geometry) (s : State) → AreBlobs s.stock → IsInRoom g s.stock s.claims → HaveSystems s → IsStanding g (durable s)
+standing_in g s blobs h have =
     let pages = h.pages in
     let nodes = h.nodes in
     record {
-      roots = h.stored;
+      blobs = blobs;
       lengths = h.lengths;
       pages = omega (arith, pages);
       nodes = omega (arith, nodes);
@@ -172,26 +180,31 @@ standing_in g s h have =
     }
 
 pub lasts_well : (origin : Origin) (history : List Event) → IsWellFormed origin → IsLegal origin history → IsStanding origin.geometry (durable (after origin history))
-lasts_well origin history begins legal = standing_in origin.geometry (after origin history) (in_room origin history begins legal) (have_after origin history begins legal)
+lasts_well origin history begins legal = standing_in origin.geometry (after origin history) (room_after origin history begins legal).blobs (in_room origin history begins legal) (have_after origin history begins legal)
 
 -- what a call meant whose write failed
-meant_next : (s : State) (number lane : ℕ) (act : Act) → IsActDue s lane act → InRoom s → IsUpdateSound s → HaveSystems s → IsStanding s.geometry (durable (next s number lane act))
-meant_next s number lane act due h sound have =
-    subst (λ (g : Geometry). IsStanding g (durable (next s number lane act))) (keeps_next s number lane act).geometry
-    (standing_in (next s number lane act).geometry (next s number lane act) (room_next s number lane act due h) (have_next s number lane act due sound have))
+record Lasting (s : State) : Type 0 where
+  claims : AreClaims s.claims s.stock
+  blobs : AreBlobs s.stock
+  room : InRoom s
+  updates : IsUpdateSound s
+  slots : HaveSystems s
 
-meant_in : (s : State) (number lane : ℕ) (act : Act) → MayWrite s number lane act → InRoom s → IsUpdateSound s → HaveSystems s → IsStanding s.geometry (meant s number lane act)
-meant_in s number lane (Put root reply) due h sound have = standing_in s.geometry s h have
-meant_in s number lane (Copy image dir file reply) due h sound have = standing_in s.geometry s h have
-meant_in s number lane (Seal sys reply) due h sound have = standing_in s.geometry s h have
-meant_in s number lane (Land root len None seen) due h sound have =
-    let found = some_and (claim_of s.claims root) due.2 in
-    standing_in s.geometry (next s number lane (Land root len None seen)) (room_landed s.geometry s.stock s.claims root len found.0 h found.1 found.2.room)
-    (record { a = have.a; b = have.b; running = have.running })
-meant_in s number lane (Land root len (Some end) seen) due h sound have = absurd (no_end due.0) where
+meant_next : (s : State) (number lane : ℕ) (act : Act) → IsActDue s lane act → Lasting s → IsStanding s.geometry (durable (next s number lane act))
+meant_next s number lane act due h =
+    let n = next s number lane act in
+    subst (λ (g : Geometry). IsStanding g (durable n)) (keeps_next s number lane act).geometry
+    (standing_in n.geometry n (blobs_next s number lane act due h.claims h.blobs) (room_next s number lane act due h.claims.roots h.room) (have_next s number lane act due h.updates h.slots))
+
+meant_in : (s : State) (number lane : ℕ) (act : Act) → MayWrite s number lane act → Lasting s → IsStanding s.geometry (meant s number lane act)
+meant_in s number lane (Put root reply) due h = standing_in s.geometry s h.blobs h.room h.slots
+meant_in s number lane (Copy image dir file reply) due h = standing_in s.geometry s h.blobs h.room h.slots
+meant_in s number lane (Seal sys reply) due h = standing_in s.geometry s h.blobs h.room h.slots
+meant_in s number lane (Land root len None seen) due h = meant_next s number lane (Land root len None seen) (due.2, tt) h
+meant_in s number lane (Land root len (Some end) seen) due h = absurd (no_end due.0) where
   no_end : ◌≡◌ {A = Option FetchEnd} (Some end) None → ⊥
   no_end e = cc
-meant_in s number lane act due h sound have = meant_next s number lane act due.0 h sound have
+meant_in s number lane act due h = meant_next s number lane act due.0 h
 
 broken_due : (s : State) (number : ℕ) (e : Event) (broke : Bool) → broke ≡ true → IsActDueIf broke s number e.lane e.act → MayWrite s number e.lane e.act
 broken_due s number e true is due = due.0
@@ -203,7 +216,8 @@ means_well origin history e begins legal due broke =
     let s = after origin history in
     let h = room_after origin history begins legal in
     subst (λ (g : Geometry). IsStanding g (meant s (length history + 1) e.lane e.act)) h.geometry
-    (meant_in s (length history + 1) e.lane e.act (broken_due s (length history + 1) e e.broke broke due.due) h.room (updates_after origin history legal) (have_after origin history begins legal))
+    (meant_in s (length history + 1) e.lane e.act (broken_due s (length history + 1) e e.broke broke due.due)
+    (record { claims = h.claims; blobs = h.blobs; room = h.room; updates = updates_after origin history legal; slots = have_after origin history begins legal }))
 
 -- what begins is what lasted
 kept_sys : (sys : Option Sys) (bootable : Bool) → is_some sys ≡ bootable → cond bootable sys None ≡ sys
@@ -221,9 +235,12 @@ begins_as_lasted g d h =
 
 pub sound_after : (origin : Origin) (history : List Event) → IsWellFormed origin → IsLegal origin history → IsSound (after origin history)
 sound_after origin history begins legal =
+    let stock = room_after origin history begins legal in
     let updates = updates_after origin history legal in
     record {
-      room = (room_after origin history begins legal).room;
+      blobs = stock.blobs;
+      claims = stock.claims;
+      room = stock.room;
       books = books_after origin history legal;
       packages = complete_after origin history legal;
       slots = have_after origin history begins legal;

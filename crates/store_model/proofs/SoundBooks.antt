@@ -22,6 +22,7 @@ use Rattle.store_model.specs.Packages.{book_of, the_book, known_book, is_complet
 use Rattle.store_model.specs.Settling.{with_looked, with_long, looked_books, kept_books, settle}
 use Rattle.store_model.specs.Step.{IsDue, step}
 use Rattle.store_model.specs.Sound.{KnowsExactly}
+use Rattle.store_model.proofs.LanesLasting.{left_len}
 use Rattle.store_model.proofs.Knowing.{cond_both, Knows, knows_more, kept_same, known_after}
 
 -- ---- what is known
@@ -183,17 +184,7 @@ stored_more (other ∷ stock) blob root stored =
     ]
 
 pub stored_left : (stock : List Stored) (roots : List Root) (root : Root) → is_stored stock root ≡ true → has_root roots root ≡ false → is_stored (without_blobs stock roots) root ≡ true
-stored_left [] roots root stored stays = absurd cc
-stored_left (blob ∷ stock) roots root stored stays =
-    elim (cases_Bool (root_eq blob.root root)) [
-      | inl same ↦ rw (ap (has_root roots) (root_eq-true blob.root root same) ∙ stays, same) refl
-      | inr differs ↦
-          let rest = stored_left stock roots root (rw differs at stored) stays in
-          elim (cases_Bool (has_root roots blob.root)) [
-            | inl goes ↦ rw goes rest
-            | inr kept ↦ rw (kept, differs) rest
-          ]
-    ]
+stored_left stock roots root stored stays = ap (λ (o : Option ℕ). is_some o) (left_len stock roots root ∙ rw stays refl) ∙ stored
 
 pub named_by : (tops : List Root) (books : Books) (top root : Root) → has_root tops top ≡ true → has_root (names top books) root ≡ true → is_named tops books root ≡ true
 named_by [] books top root among named = absurd cc

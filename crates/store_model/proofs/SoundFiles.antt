@@ -30,7 +30,8 @@ use Rattle.package_book.specs.Unprotected.{is_named}
 use Rattle.store_model.proofs.Knowing.{kept_same}
 use Rattle.store_model.proofs.Frames.{keeps_next}
 use Rattle.store_model.proofs.SoundPackages.{Was, Protected, after_if, all_dirs, collects, books_if, still_ready}
-use Rattle.store_model.proofs.SoundRoom.{found_has}
+use Rattle.store_model.proofs.LanesLists.{found_all}
+use Rattle.store_model.proofs.LanesLasting.{left_len}
 use Rattle.store_model.proofs.SoundBooks.{all_pass, all_same, not_left, named_by, complete_known, complete_stored}
 
 -- ---- an outer file of a package is among its names
@@ -143,7 +144,7 @@ of_open P dirs lane dir top all e = go (find (λ (d : DirEntry). is_of d dir lan
 
   go : (o : Option DirEntry) → find (λ (d : DirEntry). is_of d dir lane) dirs ≡ o → option_map (λ (d : DirEntry). d.root) o ≡ Some top → P top
   go None is same = absurd cc
-  go (Some d) is same = subst P (some_same d.root top same) (found_has (λ (x : DirEntry). P x.root) (λ (x : DirEntry). is_of x dir lane) dirs d all is)
+  go (Some d) is same = subst P (some_same d.root top same) (found_all (λ (x : DirEntry). is_of x dir lane) (λ (x : DirEntry). P x.root) dirs d is all)
 
 pub outer_there : (s : State) → AreComplete s → (lane dir : ℕ) (file : List ℕ) (root : Root) → found s lane dir file ≡ Outer root → is_stored s.stock root ≡ true
 outer_there s h lane dir file root e =
@@ -163,17 +164,7 @@ len_more (other ∷ stock) blob root len stored =
     ]
 
 len_left : (stock : List Stored) (roots : List Root) (root : Root) (len : ℕ) → stored_len stock root ≡ Some len → has_root roots root ≡ false → stored_len (without_blobs stock roots) root ≡ Some len
-len_left [] roots root len stored stays = absurd cc
-len_left (blob ∷ stock) roots root len stored stays =
-    elim (cases_Bool (root_eq blob.root root)) [
-      | inl same ↦ rw (ap (has_root roots) (root_eq-true blob.root root same) ∙ stays, same) (rw same at stored)
-      | inr differs ↦
-          let rest = len_left stock roots root len (rw differs at stored) stays in
-          elim (cases_Bool (has_root roots blob.root)) [
-            | inl goes ↦ rw goes rest
-            | inr kept ↦ rw (kept, differs) rest
-          ]
-    ]
+len_left stock roots root len stored stays = left_len stock roots root ∙ rw stays stored
 
 lens_next : (s : State) (number lane : ℕ) (act : Act) → IsActDue s lane act → (top root : Root) (len : ℕ) → Protected s top → has_root (names top s.books) root ≡ true → stored_len s.stock root ≡ Some len → stored_len (next s number lane act).stock root ≡ Some len
 lens_next s number lane (Land name long None seen) due top root len among named stored = len_more s.stock (record { root = name; len = long }) root len stored

@@ -32,7 +32,7 @@ use Rattle.store_model.specs.Acts.OpenPath.{root_to_open, if_complete}
 use Rattle.store_model.specs.Acts.Collect.{collect_answer}
 use Rattle.store_model.specs.Sound.{AreComplete}
 use Rattle.store_model.proofs.Frames.{keeps_next, books_next}
-use Rattle.store_model.proofs.SoundRoom.{found_has}
+use Rattle.store_model.proofs.LanesLists.{found_all}
 use Rattle.store_model.proofs.SoundSteps.{some_and}
 use Rattle.store_model.proofs.SoundBooks.{complete_in, complete_more, complete_looked, settles_complete, stored_more, collected_stored, each_in, has_left, has_right}
 use Rattle.store_model.proofs.SoundSystems.{IsGood, good_system}
@@ -161,7 +161,7 @@ was_dirs s h = was_all s (λ (d : DirEntry). d.root) s.dirs (all_dirs s) h.dirs
 -- the package of a ticket that is answered
 was_opened : (s : State) (lane : ℕ) (arrival : Arrival) (ticket : ℕ) → arrival_of s.arriving ticket ≡ Some arrival → IsAnswered s lane wants.Opened arrival → Was s arrival.root
 was_opened s lane arrival ticket found answered = record {
-  protected = found_has (λ (a : Arrival). has_root (protected_in s) a.root ≡ true) (λ (a : Arrival). a.ticket == ticket) s.arriving arrival (all_arriving s) found;
+  protected = found_all (λ (a : Arrival). a.ticket == ticket) (λ (a : Arrival). has_root (protected_in s) a.root ≡ true) s.arriving arrival found (all_arriving s);
   complete = answer_opened arrival.mark (known_fault s.books arrival.root) (is_complete s arrival.root) (first_free s arrival.root) answered.answer;
 }
 

@@ -26,7 +26,7 @@ use Rattle.store_model.specs.Acts.Want.{answer_for, first_free, is_free}
 use Rattle.store_model.specs.Acts.Room.{room_end}
 use Rattle.store_model.specs.Sound.{IsInRoom}
 use Rattle.store_model.proofs.Frames.{keeps_next}
-use Rattle.store_model.proofs.SoundRoom.{found_passes, room_without, room_claimed, room_made, room_landed, room_removed}
+use Rattle.store_model.proofs.SoundRoom.{AreApart, room_without, room_claimed, room_made, room_landed, room_removed}
 
 -- what is there, and what holds of it
 pub some_and : {X : Type 0} {P : X → Type 0} (o : Option X) → IsSomeAnd o P → (x : X) × (o ≡ Some x) × P x
@@ -40,16 +40,6 @@ same_room : (g h : Geometry) (stock new : List Stored) (claims left : List Claim
 same_room g h stock new claims left e f k room =
     subst (λ (x : Geometry). IsInRoom x new left) (sym e)
     (subst (λ (x : List Stored). IsInRoom g x left) (sym f) (subst (λ (x : List ClaimEntry). IsInRoom g stock x) (sym k) room))
-
--- a grant is the first blob that is free
-pub answer_fetch : (mark : Option FetchEnd) (fault : Option PackageFault) (complete : Bool) (free : Option Root) (root : Root) → answer_for mark fault complete free ≡ Some (wants.Fetch root) → free ≡ Some root
-answer_fetch (Some end) fault complete free root e = absurd cc
-answer_fetch None (Some why) complete free root e = absurd cc
-answer_fetch None None true free root e = absurd cc
-answer_fetch None None false (Some other) root e = ap Some (fetched other root e) where
-  fetched : (a b : Root) → ◌≡◌ {A = Option WantEnd} (Some (wants.Fetch a)) (Some (wants.Fetch b)) → a ≡ b
-  fetched a b same = cc
-answer_fetch None None false None root e = absurd cc
 
 -- room is made where it is there
 record Fits (s : State) (len : ℕ) : Type 0 where
@@ -81,34 +71,29 @@ room_refused s (calls.Put root) h = room_without s.geometry s.stock s.claims roo
 room_refused s (calls.Land root) h = room_without s.geometry s.stock s.claims root h
 room_refused s call h = h
 
-pub room_next : (s : State) (number lane : ℕ) (act : Act) → IsActDue s lane act → InRoom s → InRoom (next s number lane act)
-room_next s number lane (Want ticket (wants.Fetch root)) due h =
-    let found = some_and (arrival_of s.arriving ticket) due in
-    let answered = found.2 in
-    let first = answer_fetch found.0.mark (known_fault s.books found.0.root) (is_complete s found.0.root) (first_free s found.0.root) root answered.answer in
-    let free = or_parts (is_stored s.stock root) (is_claimed s.claims root) (not-true _ (found_passes (is_free s) (names found.0.root s.books) root first)) in
-    room_claimed s.geometry s.stock s.claims root lane h free.0 free.1 answered.free
-room_next s number lane (Want ticket wants.Opened) due h = h
-room_next s number lane (Want ticket (wants.Failed cause)) due h = h
-room_next s number lane (Room root len None) due h =
+pub room_next : (s : State) (number lane : ℕ) (act : Act) → IsActDue s lane act → AreApart s.claims → InRoom s → InRoom (next s number lane act)
+room_next s number lane (Want ticket (wants.Fetch root)) due once h = room_claimed s.geometry s.stock s.claims root lane h
+room_next s number lane (Want ticket wants.Opened) due once h = h
+room_next s number lane (Want ticket (wants.Failed cause)) due once h = h
+room_next s number lane (Room root len None) due once h =
     let found = some_and (claim_of s.claims root) due.0 in
     let fit = fits s len due.1 in
-    room_made s.geometry s.stock s.claims root len found.0 h found.1 found.2.len fit.short fit.entries
+    room_made s.geometry s.stock s.claims root len found.0 once h found.1 found.2.len fit.short fit.entries
     (pages_left s.geometry.data_pages (stock_pages s.stock + claim_pages s.claims) (pages_of len) h.pages fit.pages)
-room_next s number lane (Room root len (Some end)) due h = room_without s.geometry s.stock s.claims root h
-room_next s number lane (Put root None) due h = h
-room_next s number lane (Put root (Some end)) due h = room_without s.geometry s.stock s.claims root h
-room_next s number lane (Land root len None seen) due h =
+room_next s number lane (Room root len (Some end)) due once h = room_without s.geometry s.stock s.claims root h
+room_next s number lane (Put root None) due once h = h
+room_next s number lane (Put root (Some end)) due once h = room_without s.geometry s.stock s.claims root h
+room_next s number lane (Land root len None seen) due once h =
     let found = some_and (claim_of s.claims root) due.0 in
-    room_landed s.geometry s.stock s.claims root len found.0 h found.1 found.2.room
-room_next s number lane (Land root len (Some end) seen) due h = room_without s.geometry s.stock s.claims root h
-room_next s number lane (Missed root misses.Absent) due h = room_without s.geometry s.stock s.claims root h
-room_next s number lane (Missed root misses.Read) due h = room_without s.geometry s.stock s.claims root h
-room_next s number lane (Missed root misses.Memory) due h = room_without s.geometry s.stock s.claims root h
-room_next s number lane (Collect None) due h = h
-room_next s number lane (Collect (Some roots)) due h = room_removed s.geometry s.stock s.claims roots h
-room_next s number lane (Refused call broken) due h = room_refused s call h
-room_next s number lane act due h =
+    room_landed s.geometry s.stock s.claims root len found.0 once h found.1 found.2.room
+room_next s number lane (Land root len (Some end) seen) due once h = room_without s.geometry s.stock s.claims root h
+room_next s number lane (Missed root misses.Absent) due once h = room_without s.geometry s.stock s.claims root h
+room_next s number lane (Missed root misses.Read) due once h = room_without s.geometry s.stock s.claims root h
+room_next s number lane (Missed root misses.Memory) due once h = room_without s.geometry s.stock s.claims root h
+room_next s number lane (Collect None) due once h = h
+room_next s number lane (Collect (Some roots)) due once h = room_removed s.geometry s.stock s.claims roots h
+room_next s number lane (Refused call broken) due once h = room_refused s call h
+room_next s number lane act due once h =
     let keeps = keeps_next s number lane act in
     same_room s.geometry (next s number lane act).geometry s.stock (next s number lane act).stock s.claims (next s number lane act).claims keeps.geometry (keeps.stock refl) (keeps.claims refl) h
 
@@ -117,9 +102,9 @@ room_broken s number (Put root reply) h = room_without s.geometry s.stock s.clai
 room_broken s number (Land root len reply seen) h = room_without s.geometry s.stock s.claims root h
 room_broken s number act h = h
 
-room_next_of : (s : State) (number lane : ℕ) (act : Act) (broke : Bool) → IsActDueIf broke s number lane act → InRoom s → InRoom (cond broke (next_broken s number act) (next s number lane act))
-room_next_of s number lane act true due h = room_broken s number act h
-room_next_of s number lane act false due h = room_next s number lane act due h
+room_next_of : (s : State) (number lane : ℕ) (act : Act) (broke : Bool) → IsActDueIf broke s number lane act → AreApart s.claims → InRoom s → InRoom (cond broke (next_broken s number act) (next s number lane act))
+room_next_of s number lane act true due once h = room_broken s number act h
+room_next_of s number lane act false due once h = room_next s number lane act due once h
 
-pub room_step : (s : State) (number : ℕ) (e : Event) → IsDue s number e → InRoom s → InRoom (step s number e)
-room_step s number e due h = room_next_of s number e.lane e.act e.broke due.due h
+pub room_step : (s : State) (number : ℕ) (e : Event) → IsDue s number e → AreApart s.claims → InRoom s → InRoom (step s number e)
+room_step s number e due once h = room_next_of s number e.lane e.act e.broke due.due once h

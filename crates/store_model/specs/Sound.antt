@@ -18,6 +18,7 @@ use Rattle.store_model.specs.State.Phase.{Filling, Sealed, Done}
 use Rattle.store_model.specs.Packages.{stock_pages, claim_pages, is_complete}
 use Rattle.store_model.specs.Settling.{KnowsAll}
 use Rattle.store_model.specs.Files.{found, found_len}
+use Rattle.store_model.specs.Lanes.{AreBlobs, AreClaims}
 use Rattle.store_model.specs.History.{Beginning, Origin}
 use Rattle.store_model.specs.History.Beginning.{Lasted, Factory}
 
@@ -26,7 +27,7 @@ use Rattle.store_model.specs.History.Beginning.{Lasted, Factory}
 -- A store can begin with this: no blob stands twice, none is too long, pages and entries suffice, and a
 -- slot has a system exactly where it can be booted.
 pub record IsStanding (g : Geometry) (d : Standing) : Type 0 where
-  pub roots : IsDistinct root_eq (stock_roots d.stock)
+  pub blobs : AreBlobs d.stock
   pub lengths : All (λ (blob : Stored). blob.len ≤ BYTES_LIMIT) d.stock
   pub pages : stock_pages d.stock ≤ g.data_pages
   pub nodes : length d.stock ≤ g.blobs
@@ -43,19 +44,8 @@ IsWellFormed origin = CanBegin origin.geometry origin.beginning
 
 -- ---- the stock and the claims
 
-abbrev pub claimed_roots : List ClaimEntry → List Root
-claimed_roots claims = map (λ (claim : ClaimEntry). claim.root) claims
-
-abbrev pub claiming_lanes : List ClaimEntry → List ℕ
-claiming_lanes claims = map (λ (claim : ClaimEntry). claim.lane) claims
-
--- No blob is stored twice, or claimed twice, or claimed and stored. A lane has at most one claim. What is
--- stored and what room was made for is short enough, and has its pages and its entries.
+-- What is stored and what room was made for is short enough, and has its pages and its entries.
 pub record IsInRoom (g : Geometry) (stock : List Stored) (claims : List ClaimEntry) : Type 0 where
-  pub stored : IsDistinct root_eq (stock_roots stock)
-  pub claimed : IsDistinct root_eq (claimed_roots claims)
-  pub lanes : IsDistinct ◌==◌ (claiming_lanes claims)
-  pub missing : All (λ (claim : ClaimEntry). is_stored stock claim.root ≡ false) claims
   pub lengths : All (λ (blob : Stored). blob.len ≤ BYTES_LIMIT) stock
   pub rooms : All (λ (claim : ClaimEntry). IfSome claim.len (λ len. len ≤ BYTES_LIMIT)) claims
   pub pages : stock_pages stock + claim_pages claims ≤ g.data_pages
@@ -118,6 +108,8 @@ IsInPhase s Done = Unit {0}
 -- ---- all of it
 
 pub record IsSound (s : State) : Type 0 where
+  pub blobs : AreBlobs s.stock
+  pub claims : AreClaims s.claims s.stock
   pub room : IsInRoom s.geometry s.stock s.claims
   pub books : KnowsExactly s.books (protected_in s) s.stock
   pub packages : AreComplete s

@@ -14,8 +14,7 @@ ghost use Rattle.store_model.specs.History.Beginning.{Lasted};
 ghost use Rattle.image_layout.specs.declared.geometry.Geometry.{Geometry as GeometryOf};
 ghost use Rattle.store_model.specs.Sound.{AreComplete, IsActivated, IsInPhase, IsInRoom, IsSound, IsStanding, IsWellFormed, KnowsExactly, RunsItsSystem, IsSameFile};
 
-/// No blob is stored twice, claimed twice, or claimed and stored; a lane has one claim at most; and all
-/// that is stored or has room fits.
+/// All that is stored or has room fits: its length is allowed, and there are pages and entries for it.
 pub fn stock_and_claims_stay_in_room()
     ensures { (origin : Origin) (history : List EventOf) → IsWellFormed origin → IsLegal origin history
         → IsInRoom origin.geometry (after origin history).stock (after origin history).claims }
