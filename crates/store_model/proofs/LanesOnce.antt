@@ -68,7 +68,7 @@ claims_filtered claims stock root once = record {
   missing = All-filter (λ (c : ClaimEntry). not (root_eq c.root root)) (λ (c : ClaimEntry). is_stored stock c.root ≡ false) claims once.missing;
 }
 
-roomed_root : (root : Root) (len : ℕ) (claim : ClaimEntry) → (roomed root len claim).root ≡ claim.root
+pub roomed_root : (root : Root) (len : ℕ) (claim : ClaimEntry) → (roomed root len claim).root ≡ claim.root
 roomed_root root len claim = elim (cases_Bool (root_eq claim.root root)) [ inl holds ↦ rw holds refl | inr lacks ↦ rw lacks refl ]
 
 pub roomed_lane : (root : Root) (len : ℕ) (claim : ClaimEntry) → (roomed root len claim).lane ≡ claim.lane

@@ -1,7 +1,6 @@
 -- What a collection spares: the blobs of packages that arrive, are open, are retained, or can be opened.
-use Rattle.std.proofs.Common.{◌≡◌, ℕ, Bool, true, false, cond, ◌||◌, List, [], ◌∷◌, map, get_or, Option, Some, None, inl, inr, refl, sym, ap, subst, ◌∙◌}
-use Rattle.std.specs.Prelude.{find, ◌==◌, Contains}
-use Rattle.std.specs.List.{list_any}
+use Rattle.std.proofs.Common.{◌≡◌, ℕ, Bool, true, false, cond, ◌||◌, List, [], ◌∷◌, map, Option, Some, None, inl, inr, refl, subst, ◌∙◌}
+use Rattle.std.specs.Prelude.{find, Contains}
 use Rattle.std.specs.Option.{option_map}
 use Rattle.std.proofs.lemmas.Bool.{cases_Bool, or_left, or_right}
 use Rattle.std.proofs.lemmas.List.Folds.{list_any_at}
@@ -9,7 +8,7 @@ use Rattle.pkg_names.specs.NameAndVariant.{NameAndVariant, path_eq}
 use Rattle.pkg_names.specs.declared.root.Root.{Root}
 use Rattle.pkg_names.specs.declared.pinned.Pinned.{Pinned}
 use Rattle.pkg_names.specs.Root.{root_eq}
-use Rattle.pkg_names.proofs.Roots.{root_eq-refl, root_eq-same}
+use Rattle.pkg_names.proofs.Roots.{root_eq-same}
 use Rattle.open_tracker.specs.declared.dirs.DirEntry.{DirEntry}
 use Rattle.open_tracker.specs.Directories.{is_of, root_of}
 use Rattle.package_indexes.specs.Indexes.{root_at, or_else, roots_of}

@@ -9,6 +9,8 @@ pub mod LanesKept
 pub mod LanesQuiet
 pub mod LanesDue
 pub mod LanesSpared
+pub mod LanesEnds
+pub mod LanesOpened
 pub mod Frames
 pub mod SoundRoom
 pub mod SoundSteps

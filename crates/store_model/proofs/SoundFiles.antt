@@ -4,7 +4,7 @@ use Rattle.std.specs.Prelude.{Contains, filter, find, option_and_then}
 use Rattle.std.specs.List.{list_all}
 use Rattle.std.specs.Option.{option_map}
 use Rattle.std.specs.Str.{bytes_eq}
-use Rattle.std.proofs.lemmas.Bool.{cases_Bool, true≢false, or_cases, or_left, or_right, and_parts, not_from_false}
+use Rattle.std.proofs.lemmas.Bool.{and_right, cases_Bool, true≢false, or_cases, or_left, or_right, and_parts, not_from_false}
 use Rattle.pkg_names.specs.declared.root.Root.{Root}
 use Rattle.pkg_names.specs.Root.{root_eq}
 use Rattle.pkg_names.proofs.Roots.{root_eq-true, root_eq-same}
@@ -19,9 +19,10 @@ use Rattle.package_book.specs.Names.{roots_from, listed_roots, roots_known, name
 use Rattle.store_model.specs.declared.events.Event.{Event}
 use Rattle.store_model.specs.declared.events.Act.{Act}
 use Rattle.store_model.specs.declared.events.Act.TheVariants.{Land, Collect}
-use Rattle.store_model.specs.State.{State, Stored, stored_len, is_stored, stock_roots, without_blobs, has_root, protected_in}
+use Rattle.store_model.specs.State.{is_committed, is_successful, is_other_bootable, State, Stored, stored_len, is_stored, stock_roots, without_blobs, has_root, protected_in}
 use Rattle.store_model.specs.Step.{IsActDue, IsActDueIf, IsDue, next, next_of, seen_by, step}
 use Rattle.store_model.specs.Settling.{looked_books}
+use Rattle.store_model.specs.Acts.Collect.{collect_answer}
 use Rattle.store_model.specs.Packages.{rest, book_of, the_book, known_book, is_complete}
 use Rattle.store_model.specs.Files.{Found, found, found_len, found_at, found_of, found_in, found_outer}
 use Rattle.store_model.specs.Files.Found.{NotOpen, NoSuchFile, Inner, Outer}
@@ -228,3 +229,29 @@ same_file s number e due h lane dir top before now file =
       same = same;
       len = ap (found_len (step s number e)) same ∙ len_stays s number e due h lane dir file (found s lane dir file) refl;
     }
+
+-- ---- while the running system isn't committed
+
+not_collected : (s : State) (roots : List Root) → is_committed s ≡ false → ◌≡◌ {A = Option (List Root)} (Some roots) (collect_answer s) → ⊥
+not_collected s roots pending e = go (is_committed s) pending e where
+  go : (test : Bool) → test ≡ false → ◌≡◌ {A = Option (List Root)} (Some roots) (cond test (Some (rest s)) None) → ⊥
+  go true is same = true≢false is
+  go false is same = cc
+
+all_next : (s : State) (number lane : ℕ) (act : Act) → IsActDue s lane act → is_committed s ≡ false → (root : Root) (len : ℕ) → stored_len s.stock root ≡ Some len → stored_len (next s number lane act).stock root ≡ Some len
+all_next s number lane (Land name long None seen) due pending root len stored = len_more s.stock (record { root = name; len = long }) root len stored
+all_next s number lane (Land name long (Some end) seen) due pending root len stored = stored
+all_next s number lane (Collect None) due pending root len stored = stored
+all_next s number lane (Collect (Some roots)) due pending root len stored = absurd (not_collected s roots pending due)
+all_next s number lane act due pending root len stored =
+    ap (λ (stock : List Stored). stored_len stock root) ((keeps_next s number lane act).stock refl) ∙ stored
+
+all_if : (s : State) (number lane : ℕ) (act : Act) (broke : Bool) → IsActDueIf broke s number lane act → is_committed s ≡ false → (root : Root) (len : ℕ) → stored_len s.stock root ≡ Some len → stored_len (after_if s number lane act broke).stock root ≡ Some len
+all_if s number lane act true due pending root len stored = stored
+all_if s number lane act false due pending root len stored = all_next s number lane act due pending root len stored
+
+pub all_stay : (s : State) (number : ℕ) (e : Event) → IsDue s number e → is_committed s ≡ false → (root : Root) (len : ℕ) → stored_len s.stock root ≡ Some len → stored_len (step s number e).stock root ≡ Some len
+all_stay s number e due pending root len stored = all_if s number e.lane e.act e.broke due.due pending root len stored
+
+pub other_pends : (s : State) → is_other_bootable s.abr s.running ≡ true → s.staged ≡ None → is_committed s ≡ false
+other_pends s other none = and_right (is_successful s.abr s.running) (not (is_other_bootable s.abr s.running) || is_some s.staged) (rw (other, none) refl)

@@ -5,13 +5,15 @@ use Rattle.pkg_names.specs.declared.root.Root.{Root}
 use Rattle.fetch_queue.specs.declared.FetchEnd.{FetchEnd}
 use Rattle.fetch_queue.specs.declared.FetchEnd.TheVariants as ends
 use Rattle.fetch_queue.specs.declared.queue.ClaimEntry.{ClaimEntry}
-use Rattle.fetch_queue.specs.Fetches.{is_claimed}
+use Rattle.fetch_queue.specs.Fetches.{is_claimed, roomed}
 use Rattle.open_tracker.specs.declared.dirs.DirEntry.{DirEntry}
 use Rattle.package_book.specs.Books.{Books}
 use Rattle.package_book.specs.Names.{names}
 use Rattle.store_model.specs.declared.events.Event.{Event}
 use Rattle.store_model.specs.declared.events.Act.{Act}
-use Rattle.store_model.specs.declared.events.Act.TheVariants.{Boot, Room, Put, Land, Missed, Collect, Stage, Activate, Commit}
+use Rattle.store_model.specs.declared.events.Act.TheVariants.{Boot, Room, Put, Land, Missed, Collect, Stage, Activate, Commit, Refused}
+use Rattle.store_model.specs.declared.events.CallName.{CallName}
+use Rattle.store_model.specs.declared.events.CallName.TheVariants as calls
 use Rattle.store_model.specs.declared.ends.Miss.{Miss}
 use Rattle.store_model.specs.declared.ends.Miss.TheVariants as misses
 use Rattle.store_model.specs.declared.ends.StageEnd.TheVariants as stages
@@ -88,6 +90,40 @@ pub record IsGranted (s : State) (by ticket : ℕ) (root : Root) : Type 0 where
   pub stored : is_stored s.stock root ≡ false
   pub claimed : is_claimed s.claims root ≡ false
   pub none : holds_claim s.claims by ≡ false
+
+-- the root of the claim that a refused call was handed
+abbrev ended_by_refusal : CallName → Option Root
+ended_by_refusal (calls.Room root) = Some root
+ended_by_refusal (calls.Put root) = Some root
+ended_by_refusal (calls.Land root) = Some root
+ended_by_refusal call = None
+
+-- the root of the claim that an act ends
+abbrev pub ended_by : Act → Option Root
+ended_by (Room root len (Some end)) = Some root
+ended_by (Put root (Some end)) = Some root
+ended_by (Land root len reply seen) = Some root
+ended_by (Missed root why) = Some root
+ended_by (Refused call broken) = ended_by_refusal call
+ended_by act = None
+
+-- a write that fails ends the claim under which it was to be
+abbrev pub ended_by_failure : Act → Option Root
+ended_by_failure (Put root reply) = Some root
+ended_by_failure (Land root len reply seen) = Some root
+ended_by_failure act = None
+
+-- the root of the claim that the event ends
+abbrev pub ends_claim_of : Event → Option Root
+ends_claim_of e = if e.broke then ended_by_failure e.act else ended_by e.act
+
+abbrev pub with_room_by : Act → ClaimEntry → ClaimEntry
+with_room_by (Room root len None) claim = roomed root len claim
+with_room_by act claim = claim
+
+-- the claim, with room if the event makes it
+abbrev pub after_room : Event → ClaimEntry → ClaimEntry
+after_room e claim = if e.broke then claim else with_room_by e.act claim
 
 -- ---- marks
 

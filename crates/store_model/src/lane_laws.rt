@@ -7,13 +7,14 @@ ghost use Rattle.pkg_names.specs.declared.root.Root.{Root};
 ghost use Rattle.fetch_queue.specs.declared.FetchEnd.{FetchEnd};
 ghost use Rattle.fetch_queue.specs.declared.queue.ClaimEntry.{ClaimEntry};
 ghost use Rattle.open_tracker.specs.Directories.{root_of};
+ghost use Rattle.package_indexes.specs.Indexes.{root_at};
 ghost use Rattle.package_book.specs.Names.{names};
 ghost use Rattle.store_model.specs.declared.events.Event.{Event as EventOf};
 ghost use Rattle.store_model.specs.declared.events.Act.TheVariants as acts;
 ghost use Rattle.store_model.specs.declared.ends.WantEnd.{WantEnd as WantEndOf};
 ghost use Rattle.store_model.specs.declared.ends.WantEnd.TheVariants as wants;
 ghost use Rattle.store_model.specs.declared.events.CallName.{CallName as CallNameOf};
-ghost use Rattle.store_model.specs.State.{State, Arrival, arrival_of, claim_of, holds_claim, durable, stored_len, stock_roots, has_root, without_blobs, protected_in, is_committed};
+ghost use Rattle.store_model.specs.State.{State, Arrival, arrival_of, claim_of, holds_claim, durable, stored_len, stock_roots, has_root, is_stored, without_blobs, protected_in, is_committed};
 ghost use Rattle.store_model.specs.Packages.{rest};
 ghost use Rattle.store_model.specs.Settling.{KnowsAll};
 ghost use Rattle.store_model.specs.Acts.GaveUp.{IsTicketOf};
@@ -22,7 +23,7 @@ ghost use Rattle.store_model.specs.Acts.Want.{IsDueWant};
 ghost use Rattle.store_model.specs.Quiet.{IsQuiet};
 ghost use Rattle.store_model.specs.Step.{IsDue, step, meant, is_end};
 ghost use Rattle.store_model.specs.History.{Origin, start, IsLegal, after};
-ghost use Rattle.store_model.specs.Lanes.{HoldsSame, BrokeIn, StandOnce, AreBlobs, IsGranted, can_change_what_lasts, told, after_told, Marks};
+ghost use Rattle.store_model.specs.Lanes.{HoldsSame, BrokeIn, StandOnce, AreBlobs, IsGranted, ends_claim_of, after_room, can_change_what_lasts, told, after_told, Marks};
 
 /// What lasts changes only when the store boots, a blob lands, a collection removes blobs, an update begins, a
 /// system is made active, and one is committed. A call in which a write failed changes nothing of it; what it
@@ -76,15 +77,16 @@ pub fn collections_remove_the_rest()
 pub fn collections_spare_what_is_held()
     ensures arriving { (s : State) (number : ℕ) (e : EventOf) (roots : List Root) (ticket : ℕ)
         (arrival : Arrival) (root : Root) → IsDue s number e → e.act ≡ acts.Collect (Some roots)
-        → arrival_of s.arriving ticket ≡ Some arrival → Contains (names arrival.root s.books) root → ¬ Contains roots root }
+        → arrival_of s.arriving ticket ≡ Some arrival → Contains (names arrival.root s.books) root
+        → ¬ Contains roots root }
     ensures dir { (s : State) (number : ℕ) (e : EventOf) (roots : List Root) (dir lane : ℕ) (top root : Root)
         → IsDue s number e → e.act ≡ acts.Collect (Some roots) → root_of s.dirs dir lane ≡ Some top
         → Contains (names top s.books) root → ¬ Contains roots root }
     ensures retained { (s : State) (number : ℕ) (e : EventOf) (roots : List Root) (top root : Root)
         → IsDue s number e → e.act ≡ acts.Collect (Some roots) → Contains s.retained top
         → Contains (names top s.books) root → ¬ Contains roots root }
-    ensures path { (s : State) (number : ℕ) (e : EventOf) (roots : List Root) (path : NameAndVariant) (top root : Root)
-        → IsDue s number e → e.act ≡ acts.Collect (Some roots) → root_to_open s path ≡ Some top
+    ensures path { (s : State) (number : ℕ) (e : EventOf) (roots : List Root) (path : NameAndVariant)
+        (top root : Root) → IsDue s number e → e.act ≡ acts.Collect (Some roots) → root_to_open s path ≡ Some top
         → Contains (names top s.books) root → ¬ Contains roots root }
 {}
 
@@ -106,15 +108,21 @@ pub fn marks_come_from_ends()
         → new.mark ≡ None }
 {}
 
-/// A blob is granted to one lane at a time, and only while nobody has it: after each legal history no root is
-/// claimed twice, no claimed root is stored, a lane has one claim at most, and no ticket and no directory stands
-/// twice. Where the store begins with no root twice, none is ever stored twice.
+/// A blob is granted to one lane at a time, and only while nobody has it. A claim stays as it is, but for its
+/// room, until an event ends it, and is gone after that. After each legal history no root is claimed twice, no
+/// claimed root is stored, a lane has one claim at most, and no ticket and no directory stands twice. Where the
+/// store begins with no root twice, none is ever stored twice.
 pub fn claims_are_granted_once()
     ensures granted { (s : State) (number : ℕ) (e : EventOf) (ticket : ℕ) (root : Root) → IsDue s number e
         → e.act ≡ acts.Want ticket (wants.Fetch root) → IsGranted s e.lane ticket root }
     ensures made { (s : State) (number : ℕ) (e : EventOf) (ticket : ℕ) (root : Root) → IsDue s number e
         → e.act ≡ acts.Want ticket (wants.Fetch root)
         → claim_of (step s number e).claims root ≡ Some (record { root = root; lane = e.lane; len = None }) }
+    ensures stays { (s : State) (number : ℕ) (e : EventOf) (root : Root) (claim : ClaimEntry)
+        → claim_of s.claims root ≡ Some claim → ends_claim_of e ≢ Some root
+        → claim_of (step s number e).claims root ≡ Some (after_room e claim) }
+    ensures ends { (s : State) (number : ℕ) (e : EventOf) (root : Root) → ends_claim_of e ≡ Some root
+        → claim_of (step s number e).claims root ≡ None }
     ensures event { (s : State) (number : ℕ) (e : EventOf) → IsDue s number e → StandOnce s number
         → StandOnce (step s number e) (number + 1) }
     ensures history { (origin : Origin) (history : List EventOf) → IsLegal origin history
@@ -159,4 +167,24 @@ pub fn lanes_wait_where_it_is_quiet()
           act = acts.Want ticket reply;
           broke = false;
         })) }
+{}
+
+/// A package that was asked for is opened once all its blobs are stored. It is open under the event's number, and
+/// active under its path from then on, unless the path is in the base. Nothing else becomes active.
+pub fn whole_packages_are_opened()
+    ensures whole { (s : State) (number : ℕ) (e : EventOf) (ticket : ℕ) (arrival : Arrival) (root : Root)
+        → IsDue s number e → e.act ≡ acts.Want ticket wants.Opened → arrival_of s.arriving ticket ≡ Some arrival
+        → Contains (names arrival.root s.books) root → is_stored s.stock root ≡ true }
+    ensures dir { (s : State) (number : ℕ) (e : EventOf) (ticket : ℕ) (arrival : Arrival) → StandOnce s number
+        → IsDue s number e → e.act ≡ acts.Want ticket wants.Opened → arrival_of s.arriving ticket ≡ Some arrival
+        → root_of (step s number e).dirs number e.lane ≡ Some arrival.root }
+    ensures active { (s : State) (number : ℕ) (e : EventOf) (ticket : ℕ) (arrival : Arrival) → IsDue s number e
+        → e.act ≡ acts.Want ticket wants.Opened → arrival_of s.arriving ticket ≡ Some arrival
+        → root_at s.base arrival.path ≡ None → root_at (step s number e).active arrival.path ≡ Some arrival.root }
+    ensures base { (s : State) (number : ℕ) (e : EventOf) (ticket : ℕ) (arrival : Arrival) (root : Root)
+        → IsDue s number e → e.act ≡ acts.Want ticket wants.Opened → arrival_of s.arriving ticket ≡ Some arrival
+        → root_at s.base arrival.path ≡ Some root → (step s number e).active ≡ s.active }
+    ensures others { (s : State) (number : ℕ) (e : EventOf) (ticket : ℕ) (arrival : Arrival) (other : NameAndVariant)
+        → IsDue s number e → e.act ≡ acts.Want ticket wants.Opened → arrival_of s.arriving ticket ≡ Some arrival
+        → arrival.path ≢ other → root_at (step s number e).active other ≡ root_at s.active other }
 {}

@@ -18,9 +18,9 @@ pub use ends::{
 };
 pub use events::{Act, CallName, Event, Looked, LookedAt};
 pub use lane_laws::{
-    broken_stays, claims_are_granted_once, collections_remove_the_rest, collections_spare_what_is_held,
-    lanes_leave_each_other_alone, lanes_wait_where_it_is_quiet, marks_come_from_ends,
-    what_lasts_changes_at_few_acts,
+    broken_stays, claims_are_granted_once, collections_remove_the_rest,
+    collections_spare_what_is_held, lanes_leave_each_other_alone, lanes_wait_where_it_is_quiet,
+    marks_come_from_ends, what_lasts_changes_at_few_acts, whole_packages_are_opened,
 };
 pub use laws::{each_act_keeps_the_rest, histories_go_on, limits};
 pub use replies::{
@@ -30,6 +30,6 @@ pub use replies::{
 };
 pub use sound_laws::{
     books_know_what_is_protected, histories_are_sound, named_blobs_stay, open_files_stay,
-    packages_stay_complete, running_system_stays, stock_and_claims_stay_in_room, updates_stay_safe,
-    what_lasts_can_begin,
+    other_slot_keeps_its_blobs, packages_stay_complete, running_system_stays,
+    stock_and_claims_stay_in_room, updates_stay_safe, what_lasts_can_begin,
 };

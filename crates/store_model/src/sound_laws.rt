@@ -1,13 +1,13 @@
 //! What holds after each legal history, each the contract of a function that does nothing.
 
-ghost use Rattle.std.specs.Prelude.{◌≡◌, ℕ, ◌+◌, ◌++◌, true, List, length, Some, IfSome};
+ghost use Rattle.std.specs.Prelude.{◌≡◌, ℕ, ◌+◌, ◌++◌, true, false, List, length, Some, None, IfSome};
 ghost use Rattle.store_model.specs.declared.events.Event.{Event as EventOf};
 ghost use Rattle.pkg_names.specs.declared.root.Root.{Root as RootOf};
 ghost use Rattle.open_tracker.specs.Directories.{root_of};
 ghost use Rattle.package_book.specs.Names.{names};
 ghost use Rattle.store_model.specs.Files.{found};
 ghost use Rattle.store_model.specs.Files.Found.{Outer};
-ghost use Rattle.store_model.specs.State.{Standing, Stage, State, durable, has_root, is_stored, opened, protected_in, stored_len};
+ghost use Rattle.store_model.specs.State.{Standing, Stage, State, durable, has_root, is_committed, is_other_bootable, is_stored, opened, protected_in, stored_len};
 ghost use Rattle.store_model.specs.Step.{IsDue, meant, step};
 ghost use Rattle.store_model.specs.History.{Origin, IsLegal, after};
 ghost use Rattle.store_model.specs.History.Beginning.{Lasted};
@@ -72,6 +72,17 @@ pub fn updates_stay_safe()
         → IfSome (after origin history).stage (λ (stage : Stage). IsInPhase (after origin history) stage.phase) }
     ensures staged { (origin : Origin) (history : List EventOf) → IsLegal origin history
         → IfSome (after origin history).staged (IsActivated (after origin history)) }
+{}
+
+/// While the other slot can be booted, what its system needs stays: where no update has activated it, the
+/// running system isn't to stay yet, and then no blob goes; where one has, its packages are retained and
+/// complete, as `updates_stay_safe` says.
+pub fn other_slot_keeps_its_blobs()
+    ensures pending { (s : State) → is_other_bootable s.abr s.running ≡ true → s.staged ≡ None
+        → is_committed s ≡ false }
+    ensures stays { (s : State) (number : ℕ) (e : EventOf) → IsDue s number e → is_committed s ≡ false
+        → (root : RootOf) (len : ℕ) → stored_len s.stock root ≡ Some len
+        → stored_len (step s number e).stock root ≡ Some len }
 {}
 
 /// Once the boot is over, the same slot runs. After a boot of A or B its base is that of the slot's system.

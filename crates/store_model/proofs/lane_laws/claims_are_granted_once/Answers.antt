@@ -1,4 +1,5 @@
 use Rattle.store_model.proofs.LanesOnce.{granted_once, made_then, once_after, stand_once, stored_once}
+use Rattle.store_model.proofs.LanesEnds.{stays_until, ended_then}
 use Rattle.store_model.proofs.lane_laws.claims_are_granted_once.Goals as goal
 
 pub returns-clause-granted : goal.returns-clause-granted
@@ -15,3 +16,9 @@ returns-clause-history c = stand_once
 
 pub returns-clause-stored : goal.returns-clause-stored
 returns-clause-stored c = stored_once
+
+pub returns-clause-stays : goal.returns-clause-stays
+returns-clause-stays c = stays_until
+
+pub returns-clause-ends : goal.returns-clause-ends
+returns-clause-ends c = ended_then
