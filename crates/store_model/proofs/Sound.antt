@@ -1,9 +1,7 @@
 -- What each step keeps holds after each legal history.
 use Rattle.std.proofs.Common.{sym, is_some, ◌++◌, cond, not, ◌≡◌, ℕ, ◌+◌, Bool, true, false, List, [], ◌∷◌, length, Option, Some, None, refl, subst, ◌∙◌, arith, rules}
-use Rattle.std.specs.Prelude.{◌==◌, IfSome}
-use Rattle.std.specs.List.{IsDistinct}
+use Rattle.std.specs.Prelude.{IfSome}
 use Rattle.std.proofs.lemmas.List.Elements.{All-nil}
-use Rattle.pkg_names.specs.Root.{root_eq}
 use Rattle.image_layout.specs.declared.geometry.Geometry.{Geometry}
 use Rattle.store_model.specs.declared.events.Event.{Event}
 use Rattle.store_model.specs.declared.events.Act.{Act}
@@ -12,21 +10,21 @@ use Rattle.abr_record.specs.declared.Slot.{Slot}
 use Rattle.abr_record.specs.Boot.{is_bootable}
 use Rattle.image_layout.specs.declared.Sys.{Sys}
 use Rattle.std.proofs.lemmas.Bool.{true≢false}
-use Rattle.store_model.specs.State.{is_stored, opened, Standing, protected_in, Stage, State, durable, claim_of}
+use Rattle.store_model.specs.State.{is_stored, opened, Standing, protected_in, Stage, State, durable}
 use Rattle.store_model.specs.Step.{IsActDue, IsActDueIf, MayWrite, IsDue, next, next_broken, is_boot, meant, step}
 use Rattle.store_model.specs.History.{Beginning, Origin, start, IsLegalFrom, IsLegal, after_from, after}
 use Rattle.store_model.specs.History.Beginning.{Lasted, Factory}
 use Rattle.store_model.specs.Sound.{HaveSystems, KnowsExactly, AreComplete, IsActivated, IsInPhase, IsSound, RunsItsSystem, IsSameFile, IsStanding, IsWellFormed, IsInRoom, CanBegin}
 use Rattle.fetch_queue.specs.declared.FetchEnd.{FetchEnd}
 use Rattle.store_model.proofs.Frames.{keeps_next}
-use Rattle.store_model.proofs.SoundSteps.{InRoom, some_and, room_next, room_step}
+use Rattle.store_model.proofs.SoundSteps.{InRoom, room_next, room_step}
 use Rattle.store_model.proofs.SoundBooks.{knows_exactly, knows_nothing}
 use Rattle.store_model.proofs.SoundPackages.{complete_step}
 use Rattle.pkg_names.specs.declared.root.Root.{Root}
 use Rattle.open_tracker.specs.Directories.{root_of}
 use Rattle.store_model.specs.Files.{found}
 use Rattle.store_model.specs.Files.Found.{Outer}
-use Rattle.store_model.proofs.SoundFiles.{outer_there, same_file, named_stays}
+use Rattle.store_model.proofs.SoundFiles.{outer_there, same_file}
 use Rattle.store_model.proofs.SoundBase.{base_step}
 use Rattle.store_model.proofs.SoundSlots.{have_next, have_step}
 use Rattle.store_model.proofs.SoundUpdates.{IsUpdateSound, updates_step}

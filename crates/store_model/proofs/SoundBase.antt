@@ -1,5 +1,5 @@
 -- The base of the running system is that of its slot.
-use Rattle.std.proofs.Common.{◌≡◌, ℕ, Bool, true, false, cond, not, List, Option, Some, None, refl, sym, ap, subst, ◌∙◌}
+use Rattle.std.proofs.Common.{◌≡◌, ℕ, Bool, true, false, cond, List, Option, Some, None, refl, sym, ap, subst, ◌∙◌}
 use Rattle.std.specs.Prelude.{IsSomeAnd}
 use Rattle.pkg_names.specs.declared.pinned.Pinned.{Pinned}
 use Rattle.abr_record.specs.declared.Slot.{Slot}
@@ -8,7 +8,6 @@ use Rattle.abr_record.specs.Boot.{boot_slot}
 use Rattle.image_layout.specs.declared.Sys.{Sys}
 use Rattle.package_indexes.specs.Indexes.{root_at}
 use Rattle.system_lists.specs.Judging.{Verdict, system_path}
-use Rattle.system_lists.specs.Judging.Verdict.{Whole}
 use Rattle.store_model.specs.declared.events.Event.{Event}
 use Rattle.store_model.specs.declared.events.LookedAt.{LookedAt}
 use Rattle.store_model.specs.declared.events.Act.{Act}
@@ -21,11 +20,10 @@ use Rattle.store_model.specs.State.Phase.{Filling, Sealed, Done}
 use Rattle.store_model.specs.Systems.{at_hand, booted_verdict, staged_verdict, base_of}
 use Rattle.store_model.specs.Step.{IsActDue, IsActDueIf, IsDue, next, next_broken, step}
 use Rattle.store_model.specs.Acts.Boot.{HasSystem, IsWhole, base_after_boot}
-use Rattle.store_model.specs.Acts.Stage.{staging, abr_after_stage}
-use Rattle.store_model.specs.Acts.Activate.{activated, activated_at}
+use Rattle.store_model.specs.Acts.Stage.{abr_after_stage}
+use Rattle.store_model.specs.Acts.Activate.{activated_at}
 use Rattle.store_model.specs.Sound.{RunsItsSystem}
 use Rattle.store_model.proofs.Frames.{keeps_next}
-use Rattle.store_model.proofs.SoundSteps.{some_and}
 use Rattle.store_model.proofs.SoundSystems.{good_system}
 use Rattle.store_model.proofs.SoundUpdates.{sys_at, turn_of, marked_active_in, system_first}
 use Rattle.store_model.proofs.SoundSlots.{system_at}

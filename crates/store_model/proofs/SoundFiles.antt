@@ -1,6 +1,6 @@
 -- The files of an open package are there, and stay as they are.
-use Rattle.std.proofs.Common.{inl, inr, ◌≡◌, ℕ, ◌+◌, Bool, true, false, cond, not, List, [], ◌∷◌, ◌++◌, map, length, Option, Some, None, is_some, Result, Ok, Err, All, refl, sym, ap, subst, ◌∙◌, ◌||◌, ◌&&◌}
-use Rattle.std.specs.Prelude.{Contains, filter, find, option_and_then}
+use Rattle.std.proofs.Common.{inl, inr, ◌≡◌, ℕ, Bool, true, false, cond, not, List, [], ◌∷◌, ◌++◌, map, Option, Some, None, is_some, Result, Ok, Err, All, refl, sym, ap, subst, ◌∙◌, ◌||◌}
+use Rattle.std.specs.Prelude.{filter, find, option_and_then}
 use Rattle.std.specs.List.{list_all}
 use Rattle.std.specs.Option.{option_map}
 use Rattle.std.specs.Str.{bytes_eq}

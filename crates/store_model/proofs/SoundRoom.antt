@@ -1,19 +1,18 @@
 -- What the acts leave of the stock and the claims has the room that it needs.
-use Rattle.std.proofs.Common.{inl, inr, ◌≡◌, ◌≢◌, ℕ, ◌+◌, ◌≤◌, ◌<◌, Bool, true, false, not, List, [], ◌∷◌, ◌++◌, map, length, Option, Some, None, is_some, All, refl, sym, ap, subst, ◌∙◌, arith}
-use Rattle.std.specs.Prelude.{◌==◌, filter, find, IfSome}
+use Rattle.std.proofs.Common.{inl, inr, ◌≡◌, ◌≢◌, ℕ, ◌+◌, ◌≤◌, ◌<◌, Bool, true, false, not, List, [], ◌∷◌, ◌++◌, length, Option, Some, None, is_some, All, refl, sym, ap, ◌∙◌, arith}
+use Rattle.std.specs.Prelude.{filter, IfSome}
 use Rattle.std.specs.List.{AllPairs}
-use Rattle.std.proofs.lemmas.Bool.{cases_Bool, true≢false, or_parts, not-true, false_from_ne_true}
-use Rattle.std.proofs.lemmas.List.{map-append, append-nil, length-append}
-use Rattle.std.proofs.lemmas.List.Elements.{All-nil, All-cons, All-head, All-tail, All-weaker, All-filter, All-map, All-push, filter_passes, filter-append, All-from_recursion, recursion_from_All}
-use Rattle.std.proofs.lemmas.Map.Keys.{IsDistinct-head, IsDistinct-tail, IsDistinct-cons}
+use Rattle.std.proofs.lemmas.Bool.{cases_Bool, false_from_ne_true}
+use Rattle.std.proofs.lemmas.List.{append-nil, length-append}
+use Rattle.std.proofs.lemmas.List.Elements.{All-head, All-tail, All-weaker, All-filter, All-map, All-push, filter-append}
 use Rattle.pkg_names.specs.declared.root.Root.{Root}
 use Rattle.pkg_names.specs.Root.{root_eq}
-use Rattle.pkg_names.proofs.Roots.{root_eq-true, root_eq-same}
+use Rattle.pkg_names.proofs.Roots.{root_eq-true}
 use Rattle.pkg_merkle.specs.declared.hasher.TheConstants.{BYTES_LIMIT}
 use Rattle.image_layout.specs.declared.geometry.Geometry.{Geometry}
 use Rattle.fetch_queue.specs.declared.queue.ClaimEntry.{ClaimEntry}
-use Rattle.fetch_queue.specs.Fetches.{is_claimed, roomed, with_room, without_claim}
-use Rattle.store_model.specs.State.{Stored, stock_roots, is_stored, has_root, without_blobs, claim_of, holds_claim}
+use Rattle.fetch_queue.specs.Fetches.{roomed, with_room, without_claim}
+use Rattle.store_model.specs.State.{Stored, has_root, without_blobs, claim_of}
 use Rattle.store_model.specs.Packages.{pages_of, stock_pages, claim_pages}
 use Rattle.store_model.specs.Sound.{IsInRoom}
 use Rattle.store_model.proofs.LanesLists.{found_all, apart_head, apart_tail}

@@ -1,6 +1,6 @@
 -- A slot that can be booted has a system, and so has the one that runs.
-use Rattle.std.proofs.Common.{inl, inr, ◌≡◌, ℕ, ◌-◌, ◌<◌, Bool, true, false, cond, not, List, Option, Some, None, is_some, refl, sym, ap, subst, ◌∙◌, ◌||◌, ◌&&◌, arith, rules}
-use Rattle.std.specs.Prelude.{min, nat_lt, IsSomeAnd}
+use Rattle.std.proofs.Common.{inl, inr, ◌≡◌, ℕ, ◌-◌, Bool, true, false, cond, not, List, Option, Some, None, is_some, refl, sym, ap, subst, ◌∙◌, ◌||◌, arith}
+use Rattle.std.specs.Prelude.{min, nat_lt}
 use Rattle.std.proofs.lemmas.Bool.{cases_Bool, true≢false, and_from, and_parts, ltb-true, lt-ltb, not-true}
 use Rattle.abr_record.specs.declared.Record.{Record}
 use Rattle.abr_record.specs.declared.Slot.{Slot}
@@ -18,7 +18,7 @@ use Rattle.store_model.specs.declared.ends.ActivateEnd.TheVariants as activation
 use Rattle.store_model.specs.State.{State, sys_of, other_slot, with_sys, is_recovery, is_successful, is_other_bootable, is_committed, is_pending}
 use Rattle.store_model.specs.State as state
 use Rattle.store_model.specs.State.Phase.{Filling, Sealed, Done}
-use Rattle.store_model.specs.Step.{IsActDue, IsActDueIf, IsDue, next, next_broken, next_of, step}
+use Rattle.store_model.specs.Step.{IsActDue, IsActDueIf, IsDue, next, next_broken, step}
 use Rattle.store_model.specs.Systems.{base_of, staged_verdict}
 use Rattle.store_model.specs.Acts.Boot.{HasSystem}
 use Rattle.store_model.specs.Acts.Stage.{staging, abr_after_stage, stage_answer}

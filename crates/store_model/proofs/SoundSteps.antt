@@ -1,28 +1,22 @@
 -- Each event keeps the stock and the claims in room.
-use Rattle.std.proofs.Common.{◌≡◌, ℕ, ◌+◌, ◌≤◌, ◌<◌, Bool, true, false, cond, List, Option, Some, None, refl, sym, ap, subst, arith}
+use Rattle.std.proofs.Common.{◌≡◌, ℕ, ◌+◌, ◌≤◌, ◌<◌, Bool, true, false, cond, List, Option, Some, None, refl, sym, subst, arith}
 use Rattle.std.specs.Prelude.{◌-◌, nat_lt, nat_le, IsSomeAnd}
-use Rattle.std.proofs.lemmas.Bool.{or_parts, not-true, ltb-false, leb-false}
-use Rattle.pkg_names.specs.declared.root.Root.{Root}
+use Rattle.std.proofs.lemmas.Bool.{ltb-false, leb-false}
 use Rattle.pkg_merkle.specs.declared.hasher.TheConstants.{BYTES_LIMIT}
 use Rattle.image_layout.specs.declared.geometry.Geometry.{Geometry}
 use Rattle.fetch_queue.specs.declared.FetchEnd.{FetchEnd}
 use Rattle.fetch_queue.specs.declared.FetchEnd.TheVariants.{TooLarge, NoNode, NoSpace}
 use Rattle.fetch_queue.specs.declared.queue.ClaimEntry.{ClaimEntry}
-use Rattle.fetch_queue.specs.Fetches.{is_claimed}
-use Rattle.package_book.specs.declared.fault.PackageFault.{PackageFault}
-use Rattle.package_book.specs.Names.{names}
 use Rattle.store_model.specs.declared.events.Event.{Event}
 use Rattle.store_model.specs.declared.events.Act.{Act}
 use Rattle.store_model.specs.declared.events.Act.TheVariants.{Want, Room, Put, Land, Missed, Collect, Refused}
 use Rattle.store_model.specs.declared.events.CallName.{CallName}
 use Rattle.store_model.specs.declared.events.CallName.TheVariants as calls
 use Rattle.store_model.specs.declared.ends.Miss.TheVariants as misses
-use Rattle.store_model.specs.declared.ends.WantEnd.{WantEnd}
 use Rattle.store_model.specs.declared.ends.WantEnd.TheVariants as wants
-use Rattle.store_model.specs.State.{State, Stored, is_stored, claim_of, arrival_of}
-use Rattle.store_model.specs.Packages.{pages_of, stock_pages, claim_pages, free_pages, nodes, known_fault, is_complete}
+use Rattle.store_model.specs.State.{State, Stored, claim_of}
+use Rattle.store_model.specs.Packages.{pages_of, stock_pages, claim_pages, free_pages, nodes}
 use Rattle.store_model.specs.Step.{IsActDue, IsActDueIf, IsDue, next, next_broken, step}
-use Rattle.store_model.specs.Acts.Want.{answer_for, first_free, is_free}
 use Rattle.store_model.specs.Acts.Room.{room_end}
 use Rattle.store_model.specs.Sound.{IsInRoom}
 use Rattle.store_model.proofs.Frames.{keeps_next}

@@ -1,9 +1,7 @@
 -- What holds of the state after each history that is legal from a well-formed beginning.
-use Rattle.std.specs.Prelude.{◌≡◌, ℕ, ◌+◌, ◌≤◌, ◌==◌, true, false, List, All, length, map, filter, Some, is_some, IfSome, IsSomeAnd}
-use Rattle.std.specs.List.{IsDistinct}
+use Rattle.std.specs.Prelude.{◌≡◌, ℕ, ◌+◌, ◌≤◌, true, false, List, All, length, filter, Some, is_some, IfSome, IsSomeAnd}
 use Rattle.pkg_names.specs.declared.root.Root.{Root}
 use Rattle.pkg_names.specs.declared.pinned.Pinned.{Pinned}
-use Rattle.pkg_names.specs.Root.{root_eq}
 use Rattle.pkg_merkle.specs.declared.hasher.TheConstants.{BYTES_LIMIT}
 use Rattle.abr_record.specs.Boot.{is_bootable}
 use Rattle.image_layout.specs.declared.geometry.Geometry.{Geometry}
@@ -13,7 +11,7 @@ use Rattle.open_tracker.specs.declared.dirs.DirEntry.{DirEntry}
 use Rattle.package_book.specs.Books.{Books, book_at}
 use Rattle.package_indexes.specs.Indexes.{root_at}
 use Rattle.system_lists.specs.Judging.{system_path}
-use Rattle.store_model.specs.State.{Stored, Standing, State, Phase, Stage, stock_roots, is_stored, has_root, sys_of, other_slot, is_recovery, is_successful, is_other_bootable, protected_in}
+use Rattle.store_model.specs.State.{Stored, Standing, State, Phase, Stage, is_stored, has_root, sys_of, other_slot, is_recovery, is_successful, is_other_bootable, protected_in}
 use Rattle.store_model.specs.State.Phase.{Filling, Sealed, Done}
 use Rattle.store_model.specs.Packages.{stock_pages, claim_pages, is_complete}
 use Rattle.store_model.specs.Settling.{KnowsAll}
