@@ -76,14 +76,15 @@ pub record HaveSystems (s : State) : Type 0 where
   pub b : is_bootable s.abr.b ≡ true → is_some s.b ≡ true
   pub running : is_recovery s.running ≡ false → is_some (sys_of s s.running) ≡ true
 
-pub record IsKept (s : State) (pair : Pinned) : Type 0 where
-  pub retained : has_root s.retained pair.root ≡ true
-  pub complete : is_complete s pair.root ≡ true
-
 -- where A or B runs, the base is that of its system
 pub record RunsItsSystem (s : State) : Type 0 where
   pub base : is_recovery s.running ≡ false
       → IsSomeAnd (sys_of s s.running) (λ (sys : Sys). root_at s.base system_path ≡ Some sys.system)
+
+-- the package is retained and complete
+pub record IsKept (s : State) (pair : Pinned) : Type 0 where
+  pub retained : has_root s.retained pair.root ≡ true
+  pub complete : is_complete s pair.root ≡ true
 
 -- An update has activated the system with this base: the running slot has succeeded, and the other one
 -- has the system and can be booted. Its packages are retained and complete.
