@@ -1,5 +1,5 @@
 //! The model of the store: its state, its events, which event is due in which state, and the legal
-//! histories. `docs/model.md` of the repository tells it in words.
+//! histories. `docs/first_model.md` of the repository tells it in words.
 #![tactic(auto)]
 
 mod events;

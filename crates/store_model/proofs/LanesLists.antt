@@ -1,6 +1,6 @@
 -- What is found in a list, what a filter leaves of it, and elements that are apart.
 use Rattle.std.proofs.Common.{inl, inr, ◌≡◌, ◌≢◌, suc, ◌<◌, Bool, true, false, not, List, [], ◌∷◌, ◌++◌, map, length, get_or, Some, None, All, refl, sym, ap, subst, ◌∙◌, arith}
-use Rattle.std.specs.Prelude.{find, filter, Contains, IsSomeAnd}
+use Rattle.std.specs.Prelude.{find, filter, Contains}
 use Rattle.std.specs.List.{AllPairs, list_any, list_all}
 use Rattle.std.specs.Option.{option_map}
 use Rattle.std.proofs.lemmas.Bool.{cases_Bool, true≢false, false_from_ne_true, not_from_false, and_parts, or_left, or_right}
@@ -224,14 +224,6 @@ found_whole is mine R apart (y ∷ xs) pairs x found =
 
 -- ---- what all pass, and what none is
 
-pub none_found : {X : Type 0} (p : X → Bool) (xs : List X) → find p xs ≡ None → All (λ x. p x ≡ false) xs
-none_found p [] none = All-nil (λ x. p x ≡ false)
-none_found p (x ∷ xs) none =
-    elim (cases_Bool (p x)) [
-      | inl holds ↦ absurd (cc (rw holds at none))
-      | inr lacks ↦ All-cons (λ y. p y ≡ false) x xs lacks (none_found p xs (rw lacks at none))
-    ]
-
 pub find_none : {X : Type 0} (p : X → Bool) (xs : List X) → All (λ x. p x ≡ false) xs → find p xs ≡ None
 find_none p [] fails = refl
 find_none p (x ∷ xs) fails =
@@ -242,30 +234,6 @@ all_passes p [] all = All-nil (λ x. p x ≡ true)
 all_passes p (x ∷ xs) all =
     let both = and_parts (p x) (list_all p xs) all in
     All-cons (λ y. p y ≡ true) x xs both.0 (all_passes p xs both.1)
-
-pub all_fails : {X : Type 0} (p : X → Bool) (xs : List X) → list_all p xs ≡ false → (x : X) × Contains xs x × (p x ≡ false)
-all_fails p [] fails = absurd (cc fails)
-all_fails p (y ∷ xs) fails =
-    elim (cases_Bool (p y)) [
-      | inl holds ↦
-          let more = all_fails p xs (rw holds at fails) in
-          (more.0, (suc more.1.0, omega (arith, more.1.1), more.1.2), more.2)
-      | inr lacks ↦ (y, (0, omega arith, refl), lacks)
-    ]
-
--- what passes is found, and has what all have
-pub some_found : {X : Type 0} (p : X → Bool) (P : X → Type 0) (xs : List X) → list_any p xs ≡ true → All P xs → IsSomeAnd (find p xs) P
-some_found p P [] some all = absurd (cc some)
-some_found p P (x ∷ xs) some all =
-    elim (cases_Bool (p x)) [
-      | inl holds ↦ rw holds (All-head P x xs all)
-      | inr lacks ↦ rw lacks (some_found p P xs (rw lacks at some) (All-tail P x xs all))
-    ]
-
-pub any_found : {X : Type 0} (p : X → Bool) (P : X → Type 0) (xs : List X) → IsSomeAnd (find p xs) P → list_any p xs ≡ true
-any_found p P [] some = absurd some
-any_found p P (x ∷ xs) some =
-    elim (cases_Bool (p x)) [ inl holds ↦ rw holds refl | inr lacks ↦ rw lacks (any_found p P xs (rw lacks at some)) ]
 
 -- what is found passes a test on what it is made into
 pub any_made : {X Y : Type 0} (p : X → Bool) (q : Y → Bool) (f : X → Y) (xs : List X) (x : X) → find p xs ≡ Some x → q (f x) ≡ true → list_any q (map f xs) ≡ true

@@ -1,5 +1,15 @@
 pub mod Histories
 pub mod Knowing
+pub mod HoldingLists
+pub mod HoldingParts
+pub mod HoldingOwn
+pub mod Holding
+pub mod HoldingThere
+pub mod Calls
+pub mod Views
+pub mod CallsHeld
+pub mod CallsHandles
+pub mod CallsRest
 pub mod LanesLasting
 mod LanesLists
 pub mod LanesMarks
@@ -11,6 +21,7 @@ pub mod LanesDue
 pub mod LanesSpared
 pub mod LanesEnds
 pub mod LanesOpened
+pub mod NoAnswer
 pub mod Frames
 pub mod SoundRoom
 pub mod SoundSteps

@@ -62,7 +62,7 @@ use Rattle.store_model.specs.Files.Found.{NotOpen, NoSuchFile, Inner, Outer}
 use Rattle.store_model.specs.Holding.{HeldTicket, HeldClaim, Held, ticket_with}
 use Rattle.store_model.specs.Quiet.{IsQuiet}
 use Rattle.store_model.specs.Replies.{Acts, IsBegun, IsWanted, IsRoom, IsPut, IsLanded, IsOpened, IsRead, IsChecked, IsClosed, IsCollected, IsRetained, IsStaged, IsCopied, IsSealed, IsActivated, IsCommitted, IsRejected}
-use Rattle.store_model.specs.Desk.{View, Fillers, state_of, held_by, IsUnbroken, Does, Rests, Keeping, Keeps, KeepsImages, KeepsBlob, Appends, OfKept, filler_of, with_filler, filler_after, no_fillers}
+use Rattle.store_model.specs.Desk.{View, Fillers, state_of, held_by, IsUnbroken, Does, Rests, Kept, Keeps, KeepsImages, KeepsBlob, Appends, OfKept, filler_of, with_filler, filler_after, no_fillers}
 use Rattle.store_model.specs.Desk.Keeping.{Blob, Image}
 
 -- ---- what a lane has to hold
@@ -129,7 +129,7 @@ Wants ticket (want.Fetch back claim) old new =
 Wants ticket reply old new = Does old new (IsWanted ticket.number reply)
 
 -- a new claim has no bytes yet
-abbrev pub KeepsAtWant : WantReply → (Keeping → List ℕ → Type 0) → (Keeping → List ℕ → Type 0) → Type 0
+abbrev pub KeepsAtWant : WantReply → Kept → Kept → Type 0
 KeepsAtWant (want.Fetch back claim) before after = KeepsImages before after × after Blob []
 KeepsAtWant reply before after = Keeps before after
 
@@ -139,7 +139,7 @@ MakesRoom claim len (room.Made back) old new =
 MakesRoom claim len (room.NoMemory back) old new = Rests old new × (back ≡ claim)
 MakesRoom claim len reply old new = Does old new (IsRoom claim.root len reply)
 
-abbrev pub KeepsAtRoom : RoomReply → (Keeping → List ℕ → Type 0) → (Keeping → List ℕ → Type 0) → Type 0
+abbrev pub KeepsAtRoom : RoomReply → Kept → Kept → Type 0
 KeepsAtRoom (room.Made back) before after = Keeps before after
 KeepsAtRoom (room.NoMemory back) before after = Keeps before after
 KeepsAtRoom reply before after = KeepsImages before after
@@ -150,7 +150,7 @@ Puts claim reply old new = Does old new (IsPut claim.root reply)
 
 -- Bytes are taken where they fit behind those that were kept, and then kept too. They are too many
 -- exactly where they don't fit.
-abbrev pub KeepsAtPut : ℕ → List ℕ → PutReply → (Keeping → List ℕ → Type 0) → (Keeping → List ℕ → Type 0) → Type 0
+abbrev pub KeepsAtPut : ℕ → List ℕ → PutReply → Kept → Kept → Type 0
 KeepsAtPut len piece (put.Taken back) before after =
     KeepsImages before after × Appends before after Blob piece
     × OfKept before Blob (λ bytes. length bytes + length piece ≤ len)
@@ -162,12 +162,12 @@ KeepsAtPut len piece (put.Broken broken) before after = KeepsImages before after
 abbrev pub Carries : Root → List ℕ → List LookedAt → Type 0
 Carries root bytes seen = (seen ≡ []) ⊎ (seen ≡ record { root = root; bytes = bytes } ∷ [])
 
-abbrev pub IsLandedWith : Root → ℕ → (Keeping → List ℕ → Type 0) → ℕ → Event → Type 0
+abbrev pub IsLandedWith : Root → ℕ → Kept → ℕ → Event → Type 0
 IsLandedWith root len before number e =
     (seen : List LookedAt) × Acts (acts.Land root len None seen) e
     × OfKept before Blob (λ bytes. Carries root bytes seen)
 
-abbrev pub Lands : Claim → (Keeping → List ℕ → Type 0) → LandReply → View → View → Type 0
+abbrev pub Lands : Claim → Kept → LandReply → View → View → Type 0
 Lands claim before land.Landed old new = Does old new (IsLandedWith claim.root (room_by old) before)
 Lands claim before (land.NoMemory back) old new = Rests old new × (back ≡ claim)
 Lands claim before reply old new = Does old new (IsLanded claim.root (room_by old) reply)
@@ -179,7 +179,7 @@ IsLandingOf root len (land.Ended (ends.Short have)) bytes = have ≡ length byte
 IsLandingOf root len (land.Ended (ends.Wrong got)) bytes = (length bytes ≡ len) × (merkle_root bytes ≡ got)
 IsLandingOf root len reply bytes = Unit {0}
 
-abbrev pub KeepsAtLand : Root → ℕ → LandReply → (Keeping → List ℕ → Type 0) → (Keeping → List ℕ → Type 0) → Type 0
+abbrev pub KeepsAtLand : Root → ℕ → LandReply → Kept → Kept → Type 0
 KeepsAtLand root len (land.NoMemory back) before after = Keeps before after
 KeepsAtLand root len reply before after =
     KeepsImages before after × OfKept before Blob (IsLandingOf root len reply)
@@ -218,7 +218,7 @@ Stages epoch stage.NoMemory old new = Rests old new
 Stages epoch reply old new = Does old new (IsStaged epoch reply)
 
 -- the images begin with no bytes
-abbrev pub KeepsAtStage : StageReply → (Keeping → List ℕ → Type 0) → (Keeping → List ℕ → Type 0) → Type 0
+abbrev pub KeepsAtStage : StageReply → Kept → Kept → Type 0
 KeepsAtStage (stage.Turn slot) before after =
     KeepsBlob before after × after (Image images.Zbi) [] × after (Image images.Vbmeta) []
 KeepsAtStage reply before after = Keeps before after
@@ -246,7 +246,7 @@ IsPartOf (Inner bytes) place part = part ≡ take (length part) (drop place byte
 IsPartOf file place part = Unit {0}
 
 -- The next part of the file came behind the bytes of the image, which then has so many.
-pub record CopiesPart (image : ImageKind) (file : Found) (len have : ℕ) (old new : Fillers) (before after : Keeping → List ℕ → Type 0) : Type 0 where
+pub record CopiesPart (image : ImageKind) (file : Found) (len have : ℕ) (old new : Fillers) (before after : Kept) : Type 0 where
   pub part : List ℕ
   pub root : Root
   pub is_root : HasFileRoot file root
@@ -260,7 +260,7 @@ pub record CopiesPart (image : ImageKind) (file : Found) (len have : ℕ) (old n
   pub other : (kind : ImageKind) (bytes : List ℕ) → kind ≢ image → before (Image kind) bytes → after (Image kind) bytes
 
 -- The file is there and fits the image. There is more of it exactly where its length isn't reached.
-abbrev pub KeepsAtCopy : State → ℕ → ImageKind → ℕ → List ℕ → CopyReply → Fillers → Fillers → (Keeping → List ℕ → Type 0) → (Keeping → List ℕ → Type 0) → Type 0
+abbrev pub KeepsAtCopy : State → ℕ → ImageKind → ℕ → List ℕ → CopyReply → Fillers → Fillers → Kept → Kept → Type 0
 KeepsAtCopy s lane image dir file (copy.More have) old new before after =
     (len : ℕ) × (found_len s (found s lane dir file) ≡ Some len) × (have < len)
     × (copy_end s lane image dir file ≡ None)
@@ -273,7 +273,7 @@ KeepsAtCopy s lane image dir file (copy.Broken broken) old new before after = Ke
 KeepsAtCopy s lane image dir file reply old new before after = Keeps before after × (new ≡ old)
 
 -- an image that one file alone has filled to its end stands for bytes with the file's root
-abbrev pub IsWholeFile : ImageKind → CopyReply → Fillers → (Keeping → List ℕ → Type 0) → Type 0
+abbrev pub IsWholeFile : ImageKind → CopyReply → Fillers → Kept → Type 0
 IsWholeFile image (copy.Whole len) fillers after =
     (root : Root) → filler_of fillers image ≡ Some root
     → (bytes : List ℕ) × after (Image image) bytes × (merkle_root bytes ≡ root)
@@ -283,16 +283,16 @@ abbrev pub Seals : Sys → SealReply → View → View → Type 0
 Seals sys seal.NoMemory old new = Rests old new
 Seals sys reply old new = Does old new (IsSealed sys reply)
 
-abbrev HasSum : (Keeping → List ℕ → Type 0) → ImageKind → ImageSum → Type 0
+abbrev HasSum : Kept → ImageKind → ImageSum → Type 0
 HasSum before image sum = OfKept before (Image image) (λ bytes. image_sum bytes ≡ sum)
 
 -- the images before this one have their sums
-abbrev HasSumsBefore : (Keeping → List ℕ → Type 0) → Sys → ImageKind → Type 0
+abbrev HasSumsBefore : Kept → Sys → ImageKind → Type 0
 HasSumsBefore before sys images.Zbi = Unit {0}
 HasSumsBefore before sys images.Vbmeta = HasSum before images.Zbi sys.zbi
 
 -- Both images have their sums, or the first that hasn't is told with what it has.
-abbrev pub KeepsAtSeal : Sys → SealReply → (Keeping → List ℕ → Type 0) → (Keeping → List ℕ → Type 0) → Type 0
+abbrev pub KeepsAtSeal : Sys → SealReply → Kept → Kept → Type 0
 KeepsAtSeal sys seal.Sealed before after =
     KeepsBlob before after × HasSum before images.Zbi sys.zbi × HasSum before images.Vbmeta sys.vbmeta
 KeepsAtSeal sys (seal.Differs image got) before after =

@@ -1,5 +1,5 @@
 -- What a lane holds, by its own events alone.
-use Rattle.std.specs.Prelude.{◌≡◌, ℕ, ◌==◌, not, true, false, List, [], ◌∷◌, ◌++◌, find, filter, Option, Some, None, if◌then◌else◌}
+use Rattle.std.specs.Prelude.{ℕ, ◌==◌, not, List, [], ◌∷◌, ◌++◌, find, filter, Option, Some, None, if◌then◌else◌}
 use Rattle.std.specs.Option.{option_map}
 use Rattle.pkg_names.specs.NameAndVariant.{NameAndVariant}
 use Rattle.pkg_names.specs.declared.root.Root.{Root}
@@ -46,15 +46,15 @@ without_number tickets number = filter (λ (ticket : HeldTicket). not (ticket.nu
 abbrev pub ticket_with : List HeldTicket → ℕ → Option HeldTicket
 ticket_with tickets number = find (λ (ticket : HeldTicket). ticket.number == number) tickets
 
-abbrev dir_of : ℕ → ℕ → Option HeldTicket → List DirEntry
+abbrev pub dir_of : ℕ → ℕ → Option HeldTicket → List DirEntry
 dir_of number lane None = []
 dir_of number lane (Some ticket) = record { number = number; lane = lane; root = ticket.root } ∷ []
 
-abbrev with_len : ℕ → HeldClaim → HeldClaim
+abbrev pub with_len : ℕ → HeldClaim → HeldClaim
 with_len len claim = record claim { len = Some len }
 
 -- a call that ends a ticket or a claim, answered or refused
-abbrev held_after_call : Held → CallName → Held
+abbrev pub held_after_call : Held → CallName → Held
 held_after_call h (calls.Want ticket) = record h { tickets = without_number h.tickets ticket }
 held_after_call h (calls.Room root) = record h { claim = None }
 held_after_call h (calls.Put root) = record h { claim = None }
@@ -94,11 +94,11 @@ held_after_break h (acts.Put root reply) = record h { claim = None }
 held_after_break h (acts.Land root len reply seen) = record h { claim = None }
 held_after_break h act = h
 
-abbrev held_after_event : Held → ℕ → Event → Held
+abbrev pub held_after_event : Held → ℕ → Event → Held
 held_after_event h number e =
     if e.broke then held_after_break h e.act else held_after_act h number e.lane e.act
 
-abbrev held_from : Held → List Numbered → Held
+abbrev pub held_from : Held → List Numbered → Held
 held_from h [] = h
 held_from h (e ∷ es) = held_from (held_after_event h e.number e.event) es
 

@@ -13,4 +13,7 @@ pub mod Replies
 pub mod Desk
 pub mod Calls
 pub mod Lanes
+pub mod Held
+pub mod HeldAfter
+pub mod Examples
 pub mod Sound

@@ -156,9 +156,6 @@ pub fn lanes_leave_each_other_alone()
 pub fn lanes_wait_where_it_is_quiet()
     ensures known { (origin : Origin) (history : List EventOf) → IsLegal origin history
         → let s = after origin history in KnowsAll s.books (protected_in s) s.stock }
-    ensures state { (s : State) (lane ticket : ℕ) → KnowsAll s.books (protected_in s) s.stock
-        → IsTicketOf s lane ticket → holds_claim s.claims lane ≡ false
-        → IsQuiet s lane ticket ↔ ((reply : WantEndOf) → ¬ IsDueWant s lane ticket reply) }
     ensures history { (origin : Origin) (history : List EventOf) (lane ticket : ℕ) → IsLegal origin history
         → let s = after origin history in s.booted ≡ true → s.broken ≡ None → IsTicketOf s lane ticket
         → holds_claim s.claims lane ≡ false
