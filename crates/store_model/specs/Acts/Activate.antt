@@ -36,11 +36,11 @@ activated s lane seen slot sys = with_sys (record s {
   staged = Some (base_of (staged_verdict s seen sys));
 }) slot (Some sys)
 
-abbrev activated_in : State → ℕ → List LookedAt → Slot → Phase → State
+abbrev pub activated_in : State → ℕ → List LookedAt → Slot → Phase → State
 activated_in s lane seen slot (Sealed sys) = activated s lane seen slot sys
 activated_in s lane seen slot phase = s
 
-abbrev activated_at : State → ℕ → List LookedAt → Slot → Option Stage → State
+abbrev pub activated_at : State → ℕ → List LookedAt → Slot → Option Stage → State
 activated_at s lane seen slot None = s
 activated_at s lane seen slot (Some stage) = activated_in s lane seen slot stage.phase
 
