@@ -1,5 +1,5 @@
 -- The files of an open package.
-use Rattle.std.specs.Prelude.{ℕ, List, length, Option, Some, None, option_and_then}
+use Rattle.std.specs.Prelude.{ℕ, List, length, Option, Some, None}
 use Rattle.pkg_names.specs.declared.root.Root.{Root}
 use Rattle.far_archive.specs.Named.{file_named}
 use Rattle.open_tracker.specs.Directories.{root_of}
