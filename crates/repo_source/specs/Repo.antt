@@ -1,5 +1,5 @@
 -- What a repository tells, and what its answers say of that.
-use Rattle.std.specs.Prelude.{◌≡◌, ℕ, ◌+◌, ◌<◌, ◌≤◌, Bool, true, false, List, length, take, slice_range, find, Option, Some, None, IfSome, IsSomeAnd}
+use Rattle.std.specs.Prelude.{◌≡◌, ℕ, ◌+◌, ◌≤◌, Bool, true, false, List, length, take, slice_range, find, Option, Some, None, IfSome, IsSomeAnd}
 use Rattle.std.specs.Option.{option_map}
 use Rattle.pkg_names.specs.declared.root.Root.{Root}
 use Rattle.pkg_names.specs.Root.{root_eq}

@@ -77,7 +77,7 @@ knows_stored_long books (blob ∷ stock) root len at long = first (root_eq blob.
       (rest (books ++ record { root = blob.root; meta = Long blob.len } ∷ []) h) (rest books h)
 
 -- the books of packages that are kept
-kept_same : (books : Books) (packages : List Root) (stock : List Stored) (root : Root) → has_root packages root ≡ true → is_stored stock root ≡ true
+pub kept_same : (books : Books) (packages : List Root) (stock : List Stored) (root : Root) → has_root packages root ≡ true → is_stored stock root ≡ true
     → book_at (kept_books books packages stock) root ≡ book_at books root
 kept_same [] packages stock root p q = refl
 kept_same (b ∷ books) packages stock root p q = first (root_eq b.root root) refl (kept_same books packages stock root p q) where

@@ -144,7 +144,7 @@ granted s lane ticket root due = granted_for s lane ticket root (arrival_of s.ar
 
 -- ---- each event
 
-claims_next : (s : State) (number lane : ℕ) (act : Act) → IsActDue s lane act → AreClaims s.claims s.stock → AreClaims (next s number lane act).claims (next s number lane act).stock
+pub claims_next : (s : State) (number lane : ℕ) (act : Act) → IsActDue s lane act → AreClaims s.claims s.stock → AreClaims (next s number lane act).claims (next s number lane act).stock
 claims_next s number lane (Want ticket (wants.Fetch root)) due once =
     let grant = granted s lane ticket root due in
     claims_more s.claims s.stock (record { root = root; lane = lane; len = None }) once grant.claimed grant.stored grant.none
@@ -274,7 +274,7 @@ once_next s number lane act due once = record {
   dirs = dirs_next s number lane act once.dirs;
 }
 
-broken_claims : (s : State) (number : ℕ) (act : Act) → AreClaims s.claims s.stock → AreClaims (next_broken s number act).claims s.stock
+pub broken_claims : (s : State) (number : ℕ) (act : Act) → AreClaims s.claims s.stock → AreClaims (next_broken s number act).claims s.stock
 broken_claims s number (Put root reply) once = claims_filtered s.claims s.stock root once
 broken_claims s number (Land root len reply seen) once = claims_filtered s.claims s.stock root once
 broken_claims s number act once = once
@@ -292,7 +292,7 @@ once_after s number e due once = by_broke e.broke due.due where
   }
   by_broke false act_due = settled (next s number e.lane e.act) (once_next s number e.lane e.act act_due once) (step s number e).books
 
-once_start : (origin : Origin) → StandOnce (start origin) 1
+pub once_start : (origin : Origin) → StandOnce (start origin) 1
 once_start origin = by_beginning origin.beginning where
   empty : (s : State) → s.claims ≡ [] → s.arriving ≡ [] → s.dirs ≡ [] → StandOnce s 1
   empty s claims arriving dirs = record {
@@ -349,7 +349,7 @@ claimed_missing s root P (Some claim) is due once =
     let out = found_all (λ (c : ClaimEntry). root_eq c.root root) (λ (c : ClaimEntry). is_stored s.stock c.root ≡ false) s.claims claim is once.missing in
     subst (λ (r : Root). is_stored s.stock r ≡ false) own out
 
-blobs_next : (s : State) (number lane : ℕ) (act : Act) → IsActDue s lane act → AreClaims s.claims s.stock → AreBlobs s.stock → AreBlobs (next s number lane act).stock
+pub blobs_next : (s : State) (number lane : ℕ) (act : Act) → IsActDue s lane act → AreClaims s.claims s.stock → AreBlobs s.stock → AreBlobs (next s number lane act).stock
 blobs_next s number lane (Land root len None seen) due once blobs =
     all_pairs_push (λ (a b : Stored). a.root ≢ b.root) s.stock (record { root = root; len = len }) blobs
     (apart_from_stock s.stock root (claimed_missing s root (IsRoomOf lane len) (claim_of s.claims root) refl due.0 once))
@@ -360,7 +360,7 @@ blobs_next s number lane (Collect (Some roots)) due once blobs =
 blobs_next s number lane act due once blobs =
     rw ((keeps_rest s number (record { lane = lane; act = act; broke = false })).stock refl) blobs
 
-blobs_after : (s : State) (number : ℕ) (e : Event) → IsDue s number e → AreClaims s.claims s.stock → AreBlobs s.stock → AreBlobs (step s number e).stock
+pub blobs_after : (s : State) (number : ℕ) (e : Event) → IsDue s number e → AreClaims s.claims s.stock → AreBlobs s.stock → AreBlobs (step s number e).stock
 blobs_after s number e due once blobs = by_broke e.broke due.due where
   by_broke : (b : Bool) → IsActDueIf b s number e.lane e.act → AreBlobs (cond b (next_broken s number e.act) (next s number e.lane e.act)).stock
   by_broke true may = blobs

@@ -22,3 +22,14 @@ pub mod LanesSpared
 pub mod LanesEnds
 pub mod LanesOpened
 pub mod NoAnswer
+pub mod Frames
+pub mod SoundRoom
+pub mod SoundSteps
+pub mod SoundBooks
+pub mod SoundSystems
+pub mod SoundPackages
+pub mod SoundUpdates
+pub mod SoundSlots
+pub mod SoundBase
+pub mod SoundFiles
+pub mod Sound

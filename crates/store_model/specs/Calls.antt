@@ -1,5 +1,5 @@
 -- What each call at a desk does, by its reply.
-use Rattle.std.specs.Prelude.{◌≡◌, ◌≢◌, ◌⊎◌, ℕ, ◌+◌, ◌-◌, ◌<◌, ◌≤◌, min, List, [], ◌∷◌, ◌++◌, take, drop, length, Option, Some, None, IsSomeAnd}
+use Rattle.std.specs.Prelude.{◌≡◌, ◌≢◌, ◌⊎◌, ℕ, ◌+◌, ◌-◌, ◌<◌, ◌≤◌, min, List, [], ◌∷◌, take, drop, length, Option, Some, None, IsSomeAnd}
 use Rattle.image_layout.specs.declared.ImageKind.{ImageKind}
 use Rattle.image_layout.specs.declared.ImageKind.TheVariants as images
 use Rattle.image_layout.specs.declared.ImageSum.{ImageSum}
@@ -10,7 +10,6 @@ use Rattle.pkg_names.specs.NameAndVariant.{NameAndVariant}
 use Rattle.pkg_names.specs.declared.root.Root.{Root}
 use Rattle.pkg_merkle.specs.Merkle.{merkle_root}
 use Rattle.open_tracker.specs.Directories.{root_of}
-use Rattle.fetch_queue.specs.declared.FetchEnd.{FetchEnd}
 use Rattle.fetch_queue.specs.declared.FetchEnd.TheVariants as ends
 use Rattle.system_lists.specs.declared.fault.ManifestFile.{ManifestFile}
 use Rattle.system_lists.specs.declared.fault.ManifestFault.{ManifestFault}
@@ -59,7 +58,7 @@ use Rattle.store_model.specs.Packages.{known_fault}
 use Rattle.store_model.specs.Acts.Copy.{copy_end}
 use Rattle.store_model.specs.Files.{Found, found, found_len}
 use Rattle.store_model.specs.Files.Found.{NotOpen, NoSuchFile, Inner, Outer}
-use Rattle.store_model.specs.Holding.{HeldTicket, HeldClaim, Held, ticket_with}
+use Rattle.store_model.specs.Holding.{HeldTicket, HeldClaim, ticket_with}
 use Rattle.store_model.specs.Quiet.{IsQuiet}
 use Rattle.store_model.specs.Replies.{Acts, IsBegun, IsWanted, IsRoom, IsPut, IsLanded, IsOpened, IsRead, IsChecked, IsClosed, IsCollected, IsRetained, IsStaged, IsCopied, IsSealed, IsActivated, IsCommitted, IsRejected}
 use Rattle.store_model.specs.Desk.{View, Fillers, state_of, held_by, IsUnbroken, Does, Rests, Kept, Keeps, KeepsImages, KeepsBlob, Appends, OfKept, filler_of, with_filler, filler_after, no_fillers}

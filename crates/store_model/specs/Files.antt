@@ -1,5 +1,5 @@
 -- The files of an open package.
-use Rattle.std.specs.Prelude.{ℕ, List, length, Option, Some, None, option_and_then}
+use Rattle.std.specs.Prelude.{ℕ, List, length, Option, Some, None}
 use Rattle.pkg_names.specs.declared.root.Root.{Root}
 use Rattle.far_archive.specs.Named.{file_named}
 use Rattle.open_tracker.specs.Directories.{root_of}
@@ -17,20 +17,20 @@ pub data Found : Type 0 where
   -- a blob of its own
   Outer : Root → Found
 
-abbrev found_outer : Option Root → Found
+abbrev pub found_outer : Option Root → Found
 found_outer None = NoSuchFile
 found_outer (Some root) = Outer root
 
 -- a file in the archive comes first
-abbrev found_in : MetaAndFiles → List ℕ → Option (List ℕ) → Found
+abbrev pub found_in : MetaAndFiles → List ℕ → Option (List ℕ) → Found
 found_in book file (Some bytes) = Inner bytes
 found_in book file None = found_outer (outer_at file book.outer)
 
-abbrev found_of : Option MetaAndFiles → List ℕ → Found
+abbrev pub found_of : Option MetaAndFiles → List ℕ → Found
 found_of None file = NoSuchFile
 found_of (Some book) file = found_in book file (file_named file book.inner)
 
-abbrev found_at : State → Option Root → List ℕ → Found
+abbrev pub found_at : State → Option Root → List ℕ → Found
 found_at s None file = NotOpen
 found_at s (Some root) file = found_of (known_book s.books root) file
 

@@ -16,3 +16,4 @@ pub mod Lanes
 pub mod Held
 pub mod HeldAfter
 pub mod Examples
+pub mod Sound

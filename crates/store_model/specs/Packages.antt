@@ -1,7 +1,6 @@
 -- What the books say of packages, and what room there is for blobs.
 use Rattle.std.specs.Prelude.{ℕ, ◌+◌, ◌-◌, ◌/◌, ◌&&◌, max, Bool, List, [], ◌∷◌, length, filter, Option, Some, None, is_some, option_and_then, Result, Ok, Err}
 use Rattle.std.specs.List.{list_all}
-use Rattle.std.specs.Option.{option_map}
 use Rattle.pkg_names.specs.declared.root.Root.{Root}
 use Rattle.fetch_queue.specs.declared.queue.ClaimEntry.{ClaimEntry}
 use Rattle.package_book.specs.declared.fault.PackageFault.{PackageFault}
@@ -11,7 +10,7 @@ use Rattle.package_book.specs.Books.Meta.{Read, Long}
 use Rattle.package_book.specs.Book.{MetaAndFiles, book}
 use Rattle.package_book.specs.Names.{names}
 use Rattle.package_book.specs.Unprotected.{unprotected}
-use Rattle.store_model.specs.State.{State, Stored, stored_len, is_stored, stock_roots, protected_in}
+use Rattle.store_model.specs.State.{State, Stored, is_stored, stock_roots, protected_in}
 
 -- ---- books
 

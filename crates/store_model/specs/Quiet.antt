@@ -1,5 +1,5 @@
 -- A lane that asks what is missing has to wait.
-use Rattle.std.specs.Prelude.{◌≡◌, ◌≢◌, ℕ, false, true, List, Contains, None, IsSomeAnd}
+use Rattle.std.specs.Prelude.{◌≡◌, ◌≢◌, ℕ, false, Contains, None, IsSomeAnd}
 use Rattle.pkg_names.specs.declared.root.Root.{Root}
 use Rattle.fetch_queue.specs.declared.queue.ClaimEntry.{ClaimEntry}
 use Rattle.package_book.specs.Names.{names}

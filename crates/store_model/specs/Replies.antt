@@ -1,6 +1,6 @@
 -- Which event a reply tells of. The event has the call's arguments and the reply's answer. A reply that
 -- tells of no event is met by none.
-use Rattle.std.specs.Prelude.{◌≡◌, ◌⊎◌, ℕ, Bool, true, false, List, [], ◌∷◌, Option, Some, None}
+use Rattle.std.specs.Prelude.{◌≡◌, ◌⊎◌, ℕ, true, false, List, [], Some, None}
 use Rattle.abr_record.specs.declared.Slot.{Slot}
 use Rattle.image_layout.specs.declared.ImageKind.{ImageKind}
 use Rattle.image_layout.specs.declared.Sys.{Sys}

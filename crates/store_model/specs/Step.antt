@@ -1,5 +1,5 @@
 -- Which event is due in a state, and the state after it.
-use Rattle.std.specs.Prelude.{◌≡◌, ℕ, ◌||◌, not, Bool, true, false, List, [], Option, Some, None, is_some, IsSomeAnd, if◌then◌else◌}
+use Rattle.std.specs.Prelude.{◌≡◌, ℕ, ◌||◌, not, Bool, true, false, List, [], Some, None, is_some, IsSomeAnd, if◌then◌else◌}
 use Rattle.fetch_queue.specs.Fetches.{without_claim}
 use Rattle.fetch_queue.specs.declared.queue.ClaimEntry.{ClaimEntry}
 use Rattle.store_model.specs.declared.events.Event.{Event}

@@ -1,5 +1,5 @@
 -- The judgement of a system, by what the store has and what an event looked at.
-use Rattle.std.specs.Prelude.{◌≡◌, ℕ, Bool, true, List, [], ◌∷◌, Option, Some, None, is_some, option_and_then, if◌then◌else◌}
+use Rattle.std.specs.Prelude.{ℕ, Bool, true, List, [], ◌∷◌, Option, Some, None, is_some, if◌then◌else◌}
 use Rattle.pkg_names.specs.declared.root.Root.{Root}
 use Rattle.pkg_names.specs.declared.pinned.Pinned.{Pinned}
 use Rattle.pkg_names.specs.Root.{root_eq}
@@ -7,7 +7,7 @@ use Rattle.image_layout.specs.declared.Sys.{Sys}
 use Rattle.package_book.specs.Book.{MetaAndFiles, outer_at}
 use Rattle.package_book.specs.Names.{names}
 use Rattle.system_lists.specs.Judging.{AtHand, Verdict, judged}
-use Rattle.system_lists.specs.Judging.Verdict.{Missing, Faulty, Unread, Whole}
+use Rattle.system_lists.specs.Judging.Verdict.{Whole}
 use Rattle.store_model.specs.declared.events.LookedAt.{LookedAt}
 use Rattle.store_model.specs.State.{State, stored_len, has_root}
 use Rattle.store_model.specs.Settling.{looked_books}

@@ -12,6 +12,7 @@ mod holding_laws;
 mod lane_laws;
 mod laws;
 mod replies;
+mod sound_laws;
 mod waiting;
 
 pub use call_laws::{
@@ -40,5 +41,10 @@ pub use replies::{
     ActivateReply, BeginReply, CheckReply, Claim, CloseReply, CollectReply, CommitReply, CopyReply,
     Dir, LandReply, OpenReply, PutReply, ReadReply, RejectReply, RetainReply, RoomReply, SealReply,
     StageReply, Ticket, WantReply,
+};
+pub use sound_laws::{
+    books_know_what_is_protected, histories_are_sound, named_blobs_stay, open_files_stay,
+    other_slot_keeps_its_blobs, packages_stay_complete, running_system_stays,
+    stock_and_claims_stay_in_room, updates_stay_safe, what_lasts_can_begin,
 };
 pub use waiting::quiet_packages_have_no_answer;

@@ -1,7 +1,6 @@
 -- The sealed system is judged. If it is whole, its slot boots next.
 use Rattle.std.specs.Prelude.{◌≡◌, ℕ, false, List, Option, Some, None}
 use Rattle.pkg_names.specs.declared.root.Root.{Root}
-use Rattle.pkg_names.specs.declared.pinned.Pinned.{Pinned}
 use Rattle.pkg_names.specs.Root.{root_eq}
 use Rattle.abr_record.specs.declared.Slot.{Slot}
 use Rattle.abr_record.specs.Marks.{active_record}
@@ -12,7 +11,7 @@ use Rattle.store_model.specs.declared.events.LookedAt.{LookedAt}
 use Rattle.store_model.specs.declared.ends.ActivateEnd.{ActivateEnd}
 use Rattle.store_model.specs.declared.ends.ActivateEnd.TheVariants.{Active, BaseMissing, NotASystem, DiskRead, Rotten}
 use Rattle.store_model.specs.State.{State, Phase, Stage, IsStageOf, other_slot, with_sys}
-use Rattle.store_model.specs.State.Phase.{Filling, Sealed, Done}
+use Rattle.store_model.specs.State.Phase.{Sealed, Done}
 use Rattle.store_model.specs.Systems.{staged_verdict, base_of}
 use Rattle.store_model.specs.Acts.Boot.{IsWhole}
 
@@ -36,11 +35,11 @@ activated s lane seen slot sys = with_sys (record s {
   staged = Some (base_of (staged_verdict s seen sys));
 }) slot (Some sys)
 
-abbrev activated_in : State → ℕ → List LookedAt → Slot → Phase → State
+abbrev pub activated_in : State → ℕ → List LookedAt → Slot → Phase → State
 activated_in s lane seen slot (Sealed sys) = activated s lane seen slot sys
 activated_in s lane seen slot phase = s
 
-abbrev activated_at : State → ℕ → List LookedAt → Slot → Option Stage → State
+abbrev pub activated_at : State → ℕ → List LookedAt → Slot → Option Stage → State
 activated_at s lane seen slot None = s
 activated_at s lane seen slot (Some stage) = activated_in s lane seen slot stage.phase
 

@@ -10,7 +10,7 @@ use Rattle.store_model.specs.declared.ends.CopyEnd.TheVariants.{BadDir, NoFile, 
 use Rattle.store_model.specs.State.{State, IsStageOf}
 use Rattle.store_model.specs.State.Phase.{Filling}
 use Rattle.store_model.specs.Files.{Found, found, found_len}
-use Rattle.store_model.specs.Files.Found.{NotOpen, NoSuchFile, Inner, Outer}
+use Rattle.store_model.specs.Files.Found.{NotOpen, NoSuchFile, Outer}
 
 -- the bytes that an image may have
 abbrev pub area : Geometry → ImageKind → ℕ

@@ -1,5 +1,5 @@
 -- An update is over, whether or not it came to its end.
-use Rattle.std.specs.Prelude.{◌≡◌, ℕ, Option, None, IsSomeAnd}
+use Rattle.std.specs.Prelude.{◌≡◌, ℕ, None, IsSomeAnd}
 use Rattle.store_model.specs.State.{State, Stage}
 
 abbrev pub IsDueLeftStage : State → ℕ → Type 0

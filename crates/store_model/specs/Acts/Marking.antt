@@ -1,5 +1,5 @@
 -- What the end of a fetch without its blob leaves.
-use Rattle.std.specs.Prelude.{List, map, Option, Some, None, if◌then◌else◌}
+use Rattle.std.specs.Prelude.{List, map, if◌then◌else◌}
 use Rattle.pkg_names.specs.declared.root.Root.{Root}
 use Rattle.fetch_queue.specs.declared.FetchEnd.{FetchEnd}
 use Rattle.fetch_queue.specs.Fetches.{first_mark, without_claim}

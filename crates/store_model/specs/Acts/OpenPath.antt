@@ -8,7 +8,7 @@ use Rattle.package_indexes.specs.Indexes.{root_at, or_else}
 use Rattle.store_model.specs.State.{State}
 use Rattle.store_model.specs.Packages.{is_complete}
 
-abbrev if_complete : State → Option Root → Option Root
+abbrev pub if_complete : State → Option Root → Option Root
 if_complete s None = None
 if_complete s (Some root) = if is_complete s root then Some root else None
 

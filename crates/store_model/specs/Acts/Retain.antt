@@ -1,5 +1,5 @@
 -- These packages, and no others, are retained from now on.
-use Rattle.std.specs.Prelude.{◌≡◌, true, false, List, Contains, if◌then◌else◌}
+use Rattle.std.specs.Prelude.{◌≡◌, true, false, List, Contains}
 use Rattle.pkg_names.specs.declared.root.Root.{Root}
 use Rattle.pkg_names.specs.Root.{root_eq}
 use Rattle.package_indexes.specs.Sets.{each_once}

@@ -1,11 +1,11 @@
 -- The images of the slot that is filled are those of a system, or one of them isn't.
-use Rattle.std.specs.Prelude.{◌≡◌, ◌≢◌, ℕ, Option, Some, None}
+use Rattle.std.specs.Prelude.{◌≢◌, ℕ, Option, Some, None}
 use Rattle.image_layout.specs.declared.ImageKind.{ImageKind}
 use Rattle.image_layout.specs.declared.ImageKind.TheVariants.{Zbi, Vbmeta}
 use Rattle.image_layout.specs.declared.ImageSum.{ImageSum}
 use Rattle.image_layout.specs.declared.Sys.{Sys}
 use Rattle.store_model.specs.declared.ends.Difference.{Difference}
-use Rattle.store_model.specs.State.{State, Stage, IsStageOf}
+use Rattle.store_model.specs.State.{State, IsStageOf}
 use Rattle.store_model.specs.State.Phase.{Filling, Sealed}
 
 -- the sum that an image has in a system

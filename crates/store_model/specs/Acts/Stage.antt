@@ -8,13 +8,13 @@ use Rattle.store_model.specs.declared.ends.StageEnd.TheVariants.{Turn, InRecover
 use Rattle.store_model.specs.State.{State, Stage, other_slot, is_recovery, is_other_bootable, is_committed, running_epoch, with_sys}
 use Rattle.store_model.specs.State.Phase.{Filling}
 
-abbrev free_answer : State → ℕ → StageEnd
+abbrev pub free_answer : State → ℕ → StageEnd
 free_answer s epoch =
     if not (is_committed s) then NotCommitted
     else if nat_lt epoch (running_epoch s) then Older (running_epoch s)
     else Turn (other_slot s.running)
 
-abbrev held_answer : State → ℕ → Option Stage → StageEnd
+abbrev pub held_answer : State → ℕ → Option Stage → StageEnd
 held_answer s epoch (Some stage) = Busy stage.lane
 held_answer s epoch None = free_answer s epoch
 

@@ -12,7 +12,7 @@ use Rattle.package_indexes.specs.Indexes.{root_at, with_root}
 use Rattle.store_model.specs.declared.ends.WantEnd.{WantEnd}
 use Rattle.store_model.specs.declared.ends.WantEnd.TheVariants.{Fetch, Opened, Failed}
 use Rattle.store_model.specs.declared.ends.Cause.TheVariants as causes
-use Rattle.store_model.specs.State.{State, Stored, Arrival, is_stored, holds_claim, arrival_of, without_ticket}
+use Rattle.store_model.specs.State.{State, Arrival, is_stored, holds_claim, arrival_of, without_ticket}
 use Rattle.store_model.specs.Packages.{known_fault, is_complete}
 
 -- the blob is neither stored nor claimed
