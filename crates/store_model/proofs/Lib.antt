@@ -33,3 +33,5 @@ pub mod SoundSlots
 pub mod SoundBase
 pub mod SoundFiles
 pub mod Sound
+pub mod SameBooks
+pub mod SameSteps

@@ -15,5 +15,6 @@ pub mod Calls
 pub mod Lanes
 pub mod Held
 pub mod HeldAfter
+pub mod Mirrors
 pub mod Examples
 pub mod Sound

@@ -6,6 +6,7 @@ ghost use Rattle.store_model.specs.State.{State};
 ghost use Rattle.store_model.specs.Step.{IsDue, step};
 ghost use Rattle.store_model.specs.History.{Origin, IsLegal, after, GoesOn};
 ghost use Rattle.store_model.specs.Footprints.{footprint, KeepsRest};
+ghost use Rattle.store_model.specs.Mirrors.{Mirrors};
 
 use crate::desk::RETAIN_LIMIT;
 use crate::ends::{PIECE_LIMIT, READ_LIMIT};
@@ -28,4 +29,13 @@ pub fn histories_go_on()
         IsDue (after origin history) (length history + 1) e → GoesOn origin history e }
     ensures front { (origin : Origin) (history more : List EventOf) → IsLegal origin (history ++ more)
         → IsLegal origin history }
+{}
+
+/// Of the books, look-ups alone count: states whose books know the same of each root, and that are the
+/// same in all else, have the same events due, and after each event are such states again.
+pub fn books_are_looked_up()
+    ensures due { (s t : State) (number : ℕ) (e : EventOf) → Mirrors s t → IsDue s number e → IsDue t number e }
+    ensures after { (s t : State) (number : ℕ) (e : EventOf) → Mirrors s t
+        → Mirrors (step s number e) (step t number e) }
+    ensures back { (s t : State) → Mirrors s t → Mirrors t s }
 {}
