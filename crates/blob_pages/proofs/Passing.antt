@@ -1,5 +1,6 @@
 -- How a draft follows the bytes that come, and the pages that are passed.
-use Rattle.std.proofs.Common.{◌≡◌, ℕ, ◌+◌, ◌-◌, ◌*◌, ◌/◌, ◌%◌, ◌<◌, ◌≤◌, ◌==◌, if◌then◌else◌, List, ◌++◌, length, take, drop, Option, Some, None, sym, ◌∙◌, ap, arith, length-append, length-drop}
+use Rattle.std.proofs.Common.{◌≡◌, ℕ, ◌+◌, ◌-◌, ◌*◌, ◌/◌, ◌%◌, ◌<◌, ◌≤◌, ◌==◌, if◌then◌else◌, List, ◌++◌, length, take, drop, Option, Some, None, sym, ◌∙◌, ap, arith, length-append, length-drop, is_some, true, false, inl, inr, eqb, eq-eqb}
+use Rattle.std.proofs.lemmas.Bool.{cases_eq, cond-true}
 use Rattle.std.proofs.lemmas.List.{drop-drop, drop-append-le, length-take, take_all}
 use Rattle.pkg_names.specs.declared.root.Root.{Root}
 use Rattle.pkg_merkle.specs.declared.hasher.Hasher.{Hasher}
@@ -55,3 +56,13 @@ begun_page-rest draft blob short is =
     sym (ap (λ (k : ℕ). opened k (page_of blob (length blob / 4096))) part
     ∙ ap (λ (i : ℕ). opened (length rest) (page_of blob i)) index
     ∙ ap (opened (length rest)) page)
+
+pub begun_some : (bytes : List ℕ) → is_some (begun_page bytes) ≡ true → 0 < length bytes
+begun_some bytes some =
+    elim (cases_eq (length bytes) 0) [
+      | inl none ↦
+          let empty : begun_page bytes ≡ None = cond-true (eqb (length bytes) 0) None (Some (filled bytes)) (eq-eqb (length bytes) 0 none) in
+          let e : false ≡ true = sym (ap (λ (o : Option (List ℕ)). is_some o) empty) ∙ some in
+          absurd (cc e)
+      | inr more ↦ omega (arith, more)
+    ]

@@ -1,5 +1,5 @@
 -- What a draft has of the blob that comes.
-use Rattle.std.specs.Prelude.{ℕ, ◌≡◌, ◌≢◌, ◌+◌, ◌*◌, ◌<◌, ◌≤◌, nat_le, List, length, drop, Option, Some, None, if◌then◌else◌, Vec, vec_len, vec_capacity}
+use Rattle.std.specs.Prelude.{⊤, IsSome, ◌%◌, ℕ, ◌≡◌, ◌≢◌, ◌+◌, ◌*◌, ◌<◌, ◌≤◌, nat_le, List, length, drop, Option, Some, None, if◌then◌else◌, Vec, vec_len, vec_capacity}
 use Rattle.std.specs.declared.alloc.Global.{Global}
 use Rattle.pkg_names.specs.declared.root.Root.{Root}
 use Rattle.pkg_merkle.specs.declared.hasher.Hasher.{Hasher}
@@ -48,6 +48,12 @@ EndsAs draft blob (Wrong got) = (length blob ≡ draft.len) × (got ≡ merkle_r
 EndsAs draft blob (Whole whole) =
     (length blob ≡ draft.len) × (draft.root ≡ merkle_root blob) × (whole.open ≡ open_page blob)
     × (whole.kept ≡ kept_of draft.len blob)
+
+-- a page is left to be written only where the blob doesn't end with a full one
+abbrev pub LeavesOpen : ℕ → DraftEnd → Type 0
+LeavesOpen len (Short have) = ⊤
+LeavesOpen len (Wrong got) = ⊤
+LeavesOpen len (Whole whole) = IsSome whole.open → 0 < len % PAGE_SIZE
 
 -- what contracts see of the fields of a draft
 abbrev pub progress : Root → ℕ → Hasher → ℕ → List ℕ → ℕ → Progress

@@ -72,7 +72,7 @@ impl Model for Draft {
 
 impl Draft {
     ghost use Rattle.blob_pages.specs.Pages.{page_of};
-    ghost use Rattle.blob_pages.specs.Draft.{have, IsDraftOf, HasNoFullPage, kept_of, EndsAs};
+    ghost use Rattle.blob_pages.specs.Draft.{have, IsDraftOf, HasNoFullPage, kept_of, EndsAs, LeavesOpen};
 
     /// The draft of a blob of this root and length, of which nothing came yet.
     pub fn make(alloc: Global, root: Root, len: u64) -> Result<Draft, AllocError>
@@ -186,7 +186,8 @@ impl Draft {
     /// Whether the blob came whole, and what is left to do with it.
     pub fn end(self) -> DraftEnd
         requires { HasNoFullPage self }
-        ensures { (blob : List ℕ) → IsDraftOf self blob → EndsAs self blob result }
+        ensures ends { (blob : List ℕ) → IsDraftOf self blob → EndsAs self blob result }
+        ensures begun { LeavesOpen self.len result }
     {
         let Draft {
             root,
