@@ -1,8 +1,8 @@
 ghost use Rattle.std.specs.Prelude.{◌≡◌, ◌+◌, ◌<◌, ◌≤◌, [], ◌∷◌, ◌++◌, length, OnOk, OnErr};
 
+use first_model::Event;
 use std::alloc::{AllocError, Global};
 use std::marker::Model;
-use first_model::Event;
 
 /// The events so far, with room for more. Contracts see the events, and how many still fit.
 #[derive(Debug, Drop)]

@@ -8,9 +8,9 @@ ghost use Rattle.pkg_tool.specs.Text.{slot_text, end_text, begin_text, want_text
 
 use abr_record::Slot;
 use fetch_queue::FetchEnd;
+use first_model::{Act, BeginEnd, Cause, Event, Miss, WantEnd};
 use pkg_names::{PackagePath, Root, write_root};
 use std::alloc::{AllocError, Global};
-use first_model::{Act, BeginEnd, Cause, Event, Miss, WantEnd};
 
 /// The lines of a history, in order.
 pub(crate) fn text_of(alloc: Global, history: &[Event]) -> Result<Vec<u8>, AllocError>

@@ -22,9 +22,9 @@ use crate::script::{Request, SCRIPT_LIMIT, ScriptFault, TextFault, read_script};
 use crate::serve::serve;
 use crate::store::Store;
 use crate::words::are_run;
+use first_model::Event;
 use pkg_names::streams::{Sink, Source};
 use std::alloc::Global;
-use first_model::Event;
 
 /// How a run ended.
 #[derive(Clone, Copy, Debug, PartialEq, Eq)]

@@ -12,9 +12,9 @@ ghost use Rattle.pkg_tool.specs.Serving.Point.{Rest, Cut};
 use crate::repo::{FILE_LIMIT, FileReply, FirstRepo};
 use crate::script::Request;
 use crate::store::Store;
+use first_model::{Miss, WantEnd};
 use pkg_names::{Bytes, Root};
 use std::alloc::{AllocError, Global};
-use first_model::{Miss, WantEnd};
 
 /// Serves one request, to its end or until memory is short.
 pub(crate) fn serve<R: FirstRepo>(

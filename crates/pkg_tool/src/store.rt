@@ -15,13 +15,13 @@ ghost use Rattle.pkg_tool.specs.Mirrors.{blob_at, looked_blobs, missing_of};
 use crate::history::History;
 use abr_record::Slot;
 use fetch_queue::FetchEnd;
+use first_model::{Act, BeginEnd, Cause, Event, Looked, LookedAt, META_LIMIT, Miss, WantEnd};
 use package_book::names_alone;
 use package_indexes::Choice;
 use pkg_merkle::{BYTES_LIMIT, root_of};
 use pkg_names::{Bytes, PackagePath, Root};
 use std::alloc::{AllocError, Global};
 use std::marker::Model;
-use first_model::{Act, BeginEnd, Cause, Event, Looked, LookedAt, META_LIMIT, Miss, WantEnd};
 
 /// The lane that asks; the boot is lane 0's.
 const LANE: u32 = 1;
