@@ -1,5 +1,5 @@
 use Rattle.std.proofs.Common.{refl}
-use Rattle.system_lists.specs.Lists.{listed}
+use Rattle.system_lists.specs.Entries.{listed}
 use Rattle.store_model.proofs.examples.examples_of_judgements.Goals as goal
 
 pub returns-clause-whole : goal.returns-clause-whole
