@@ -1,5 +1,4 @@
-//! Tests of the formats: Merkle roots, archives, contents, manifests and books, by their public calls, and what they
-//! share.
+//! Tests of the formats: Merkle roots, archives, contents and books, by their public calls, and what they share.
 #![tactic(auto)]
 
 #[cfg(test)]
@@ -9,7 +8,5 @@ mod books;
 pub mod common;
 #[cfg(test)]
 mod contents;
-#[cfg(test)]
-mod manifests;
 #[cfg(test)]
 mod roots;

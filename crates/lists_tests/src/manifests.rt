@@ -1,8 +1,9 @@
 //! The manifests of update packages.
 
+use crate::set_up::lens;
 use std::alloc::{AllocError, Global};
 use std::test::Fail;
-use update_manifest::{ImageRef, Images, ManifestFault, read_epoch, read_images, read_packages};
+use update_manifest::{ManifestFault, read_epoch, read_images, read_packages};
 
 const ONES: &str = "1111111111111111111111111111111111111111111111111111111111111111";
 
@@ -115,20 +116,6 @@ fn images(alloc: Global, rows: &[Row]) -> Result<String, AllocError> {
     }
     out.push_str("]},\"version\":1}")?;
     Ok(out)
-}
-
-// The length of an image, if there is one.
-fn len_of(image: &Option<ImageRef>) -> Option<u64> {
-    image.as_ref().map(|image| image.len)
-}
-
-fn lens(images: &Images) -> (u64, Option<u64>, Option<u64>, Option<u64>) {
-    (
-        images.zbi.len,
-        len_of(&images.vbmeta),
-        len_of(&images.recovery_zbi),
-        len_of(&images.recovery_vbmeta),
-    )
 }
 
 #[test]
