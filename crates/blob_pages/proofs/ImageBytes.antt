@@ -88,15 +88,21 @@ some_pages count told place value P fits (suc n) apart range lasts some may =
     let Before : Pages → Type 0 = FirstAre place value P n in
     let before = some_pages count told place value P fits n (λ i j lt below. apart i j lt (omega (arith, below))) (λ i below. range i (omega (arith, below))) (λ i below. lasts i (omega (arith, below))) some (fewer told place value n may) in
     some_weaker (λ image. Before image × (page_at image (place n) ≡ value n)) (FirstAre place value P (suc n)) told
-    (λ image p. (p.0.0, λ i below. elim (cases_lt i n) [
-      | inl lt ↦ p.0.1 i lt
-      | inr ge ↦
-        let last : i ≡ n = omega (arith, ge, below) in
-        subst (λ (k : ℕ). page_at image (place k) ≡ value k) (sym last) p.1
-    ]))
+    (λ image p. (
+      p.0.0,
+      λ i below. elim (cases_lt i n) [
+        | inl lt ↦ p.0.1 i lt
+        | inr ge ↦
+            let last : i ≡ n = omega (arith, ge, below) in
+            subst (λ (k : ℕ). page_at image (place k) ≡ value k) (sym last) p.1
+      ],
+    ))
     (read_more Before (place n) (value n) count told (range n (omega arith)) fits
-    (λ image k bytes at inside p. (lasts n (omega arith) image k bytes at inside p.0, λ i below.
-    get_or-set_other image k (place i) bytes [] (λ e. apart i n below (omega arith) (e ∙ at)) ∙ p.1 i below)) before (newest told place value n may))
+    (λ image k bytes at inside p. (
+      lasts n (omega arith) image k bytes at inside p.0,
+      λ i below.
+          get_or-set_other image k (place i) bytes [] (λ e. apart i n below (omega arith) (e ∙ at)) ∙ p.1 i below,
+    )) before (newest told place value n may))
 
 -- the bytes that pages of an image make
 bytes_of_pages : (start : ℕ) (chain : List ℕ) (len n : ℕ) (pages image : Pages) → n ≤ length chain → length pages ≡ n → len ≤ length (joined pages) → ((i : ℕ) → i < n → page_at image (place start chain i) ≡ page_at pages i) → bytes_in start chain len image ≡ take len (joined pages)
