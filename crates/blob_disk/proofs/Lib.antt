@@ -1,0 +1,13 @@
+pub mod Placing
+pub mod StoredBytes
+pub mod Putting
+pub mod Committing
+pub mod GoodBlobs
+pub mod Pooling
+pub mod Marking
+pub mod Attaching
+pub mod SoundLists
+pub mod Moving
+pub mod WholeBlobs
+pub mod Removing
+pub mod Rooms

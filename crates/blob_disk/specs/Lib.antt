@@ -1,0 +1,7 @@
+pub mod Chains
+pub mod Stock
+pub mod Pooled
+pub mod Gone
+pub mod Drafts
+pub mod Ends
+pub mod Reading
