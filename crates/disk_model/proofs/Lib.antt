@@ -11,3 +11,4 @@ pub mod FuseLemmas
 pub mod ReplayLemmas
 pub mod PickLemmas
 pub mod CopyLemmas
+pub mod LastPicks

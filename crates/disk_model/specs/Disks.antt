@@ -1,5 +1,5 @@
 -- What contracts see of the disks in memory.
-use Rattle.std.specs.Prelude.{ℕ, ◌≡◌, ◌⊎◌, ◌↔◌, ◌+◌, ◌-◌, ◌^◌, ◌<◌, ◌≤◌, min, Bool, true, false, List, [], ◌∷◌, length, drop, Result, IsErr, OnOk, OnErr}
+use Rattle.std.specs.Prelude.{ℕ, ◌≡◌, ◌⊎◌, ◌↔◌, ◌+◌, ◌-◌, ◌^◌, ◌<◌, ◌≤◌, min, Bool, true, false, List, [], ◌∷◌, ◌++◌, length, drop, Option, None, Some, Result, IsErr, OnOk, OnErr}
 use Rattle.std.specs.List.{Contains}
 use Rattle.disk_model.specs.declared.act.DiskAct.{DiskAct}
 use Rattle.disk_model.specs.declared.act.DiskAct.TheVariants.{Wrote, Failed, Synced}
@@ -15,11 +15,12 @@ pub record Quiet : Type 0 where
   pub pages : Pages
   pub reads : ℕ
 
--- A `MemDisk`: its past, the numbers of the calls that are to fail, how many calls came so far, the
--- counts of failures and of reads, and whether memory was wanting for an act.
+-- A `MemDisk`: its past, the numbers of the calls that are to fail, those of them that it was made with, how
+-- many calls came so far, the counts of failures and of reads, and whether memory was wanting for an act.
 pub record Mem : Type 0 where
   pub past : Past
   pub failing : List ℕ
+  pub made_failing : List ℕ
   pub calls : ℕ
   pub faults : ℕ
   pub reads : ℕ
@@ -30,11 +31,21 @@ abbrev pub new_mem : Pages → List ℕ → Mem
 new_mem start failing = record {
   past = record { start = start; trail = [] };
   failing = failing;
+  made_failing = failing;
   calls = 0;
   faults = 0;
   reads = 0;
   starved = false;
 }
+
+-- the calls that are to fail: those that the disk was made with, and maybe one that was named later
+abbrev pub all_failing : List ℕ → Option ℕ → List ℕ
+all_failing made None = made
+all_failing made (Some call) = made ++ call ∷ []
+
+-- the number of the call after this many further ones
+abbrev pub call_after : ℕ → Mem → ℕ
+call_after count disk = min (disk.calls + count + 1) (2 ^ 64 - 1)
 
 -- the next call is to fail
 abbrev pub IsNextListed : Mem → Type 0

@@ -5,6 +5,7 @@ mod act;
 mod copy;
 mod disk;
 mod fuse;
+mod last;
 mod laws;
 mod mem;
 mod pages;
@@ -12,6 +13,7 @@ mod power_loss;
 mod quiet;
 mod replay;
 mod rows;
+mod trail;
 
 pub use act::DiskAct;
 pub use copy::CopyFault;
@@ -22,6 +24,7 @@ pub use laws::{
     possible_after_act, untouched_page,
 };
 pub use mem::MemDisk;
-pub use power_loss::{Pick, RestartFault, restart};
+pub use power_loss::{Pick, RestartFault, last_picks, restart};
 pub use quiet::QuietDisk;
 pub use rows::{settle_pages, write_pages};
+pub use trail::Trail;

@@ -5,14 +5,16 @@ ghost use Rattle.std.specs.List.{AllByRecursion, Contains};
 ghost use Rattle.disk_model.specs.declared.act.DiskAct.TheVariants.{Wrote, Failed, Synced};
 ghost use Rattle.disk_model.specs.Past.{Past, IsPage, IsPast, then_act, with_act, state_of, MayRead, Rose, page_at, zero_pages};
 ghost use Rattle.disk_model.specs.Images.{IsImage, contents};
-ghost use Rattle.disk_model.specs.Picks.{synced_contents, AreGood, HasCause, Takes};
-ghost use Rattle.disk_model.specs.Disks.{new_mem, IsNextListed, after_call, after_fault, after_want, one_more, FailsWrite};
+ghost use Rattle.disk_model.specs.Picks.{synced_contents, AreGood, AreLastPicks, HasCause, Takes};
+ghost use Rattle.disk_model.specs.Disks.{new_mem, all_failing, call_after, IsNextListed, after_call, after_fault, after_want, one_more, FailsWrite};
 
 use crate::act::DiskAct;
 use crate::disk::{Disk, DiskFailed};
+use crate::last::last_picks_of;
 use crate::pages::zero_pages;
 use crate::power_loss::{Pick, RestartFault};
 use crate::replay::picked_pages;
+use crate::trail::Trail;
 use std::alloc::{AllocError, Global};
 use std::marker::Model;
 
@@ -25,6 +27,8 @@ pub struct MemDisk {
     // what stands on the pages after all acts
     current: Vec<[u8; 4096]>,
     failing: Vec<u64>,
+    // one more call that is to fail
+    fails_later: Option<u64>,
     calls: u64,
     faults: u64,
     reads: u64,
@@ -32,13 +36,14 @@ pub struct MemDisk {
 }
 
 impl Model for MemDisk {
-    ghost use Rattle.disk_model.specs.Disks.{Mem, IsKept};
+    ghost use Rattle.disk_model.specs.Disks.{Mem, all_failing, IsKept};
 
     ghost Value = { Mem };
 
     ghost view = { λ d. record {
       past = record { start = d.start.items; trail = d.acts.items };
-      failing = d.failing.items;
+      failing = all_failing d.failing.items d.fails_later;
+      made_failing = d.failing.items;
       calls = d.calls;
       faults = d.faults;
       reads = d.reads;
@@ -49,10 +54,10 @@ impl Model for MemDisk {
         IsKept (record { start = d.start.items; trail = d.acts.items }) d.current.items };
 }
 
-fn is_listed(failing: &[u64], call: u64) -> bool
-    ensures { IsTrue result ↔ Contains failing.now call }
+fn is_listed(failing: &[u64], later: Option<u64>, call: u64) -> bool
+    ensures { IsTrue result ↔ Contains (all_failing failing.now later) call }
 {
-    failing.contains(&call)
+    failing.contains(&call) || later == Some(call)
 }
 
 // Puts an act behind the others. Whether there was memory for it.
@@ -75,6 +80,7 @@ impl MemDisk {
             acts: Vec::new(alloc),
             current,
             failing,
+            fails_later: None,
             calls: 0,
             faults: 0,
             reads: 0,
@@ -103,6 +109,24 @@ impl MemDisk {
         self.starved
     }
 
+    /// Lets the call after this many further ones fail, as a listed one. It takes the place of the call
+    /// that was named so before.
+    pub fn fail_after(&mut self, calls: u64)
+        ensures disk { self.new ≡ record self.old {
+          failing = self.old.made_failing ++ call_after calls self.old ∷ [];
+        } }
+    {
+        self.fails_later = Some(self.calls.saturating_add(calls).saturating_add(1));
+    }
+
+    /// The acts of its trail, without a copy.
+    pub fn into_trail(self) -> Trail
+        ensures trail { result ≡ self.past.trail }
+        ensures told { IsPast (length self.past.start) self.past }
+    {
+        Trail::of(self.acts)
+    }
+
     // A disk that begins with these pages.
     pub(crate) fn with_pages(alloc: Global, start: Vec<[u8; 4096]>) -> Result<MemDisk, AllocError>
         requires pages { AllByRecursion IsPage start.items }
@@ -115,6 +139,7 @@ impl MemDisk {
             acts: Vec::new(alloc),
             current,
             failing: Vec::new(alloc),
+            fails_later: None,
             calls: 0,
             faults: 0,
             reads: 0,
@@ -132,6 +157,13 @@ impl MemDisk {
     {
         let start = picked_pages(alloc, &self.start, &self.acts, picks)?;
         Ok(MemDisk::with_pages(alloc, start)?)
+    }
+
+    pub(crate) fn last_writes(&self, alloc: Global) -> Result<Vec<Pick>, AllocError>
+        ensures last { IfOk result (λ picks. AreLastPicks self.now.past.trail picks.items) }
+        ensures good { IfOk result (λ picks. AreGood self.now.past.trail picks.items) }
+    {
+        last_picks_of(alloc, self.start.len(), &self.acts)
     }
 
     // A failure that leaves no act.
@@ -210,7 +242,7 @@ impl Disk for MemDisk {
     {
         self.calls = self.calls.saturating_add(1);
         self.reads = self.reads.saturating_add(1);
-        if is_listed(&self.failing, self.calls) {
+        if is_listed(&self.failing, self.fails_later, self.calls) {
             self.fail();
             return Err(DiskFailed);
         }
@@ -231,7 +263,7 @@ impl Disk for MemDisk {
         ensures faults_never_fall { self.old.faults ≤ self.new.faults }
     {
         self.calls = self.calls.saturating_add(1);
-        if is_listed(&self.failing, self.calls) {
+        if is_listed(&self.failing, self.fails_later, self.calls) {
             self.fail_write(page, bytes);
             return Err(DiskFailed);
         }
@@ -255,7 +287,7 @@ impl Disk for MemDisk {
         ensures faults_never_fall { self.old.faults ≤ self.new.faults }
     {
         self.calls = self.calls.saturating_add(1);
-        if is_listed(&self.failing, self.calls) {
+        if is_listed(&self.failing, self.fails_later, self.calls) {
             self.fail(); // adds no act
             return Err(DiskFailed);
         }

@@ -5,7 +5,7 @@ ghost use Rattle.std.specs.List.{All};
 ghost use Rattle.disk_model.specs.Past.{page_at};
 ghost use Rattle.disk_model.specs.Images.{IsImage};
 ghost use Rattle.disk_model.specs.Disks.{new_mem};
-ghost use Rattle.disk_model.specs.Picks.{synced_contents, AreGood, HasCause, Takes};
+ghost use Rattle.disk_model.specs.Picks.{synced_contents, AreGood, AreLastPicks, HasCause, Takes};
 
 use crate::mem::MemDisk;
 use std::alloc::{AllocError, AllocFailed, Global};
@@ -59,4 +59,13 @@ pub fn restart(alloc: Global, disk: &MemDisk, picks: &[Pick]) -> Result<MemDisk,
     ensures cause { IfErr result (HasCause disk.now.past.trail picks.now) }
 {
     disk.restarted(alloc, picks)
+}
+
+/// For each page that was written since the last sync the last write of it, made or failed, in the order
+/// of the pages.
+pub fn last_picks(alloc: Global, disk: &MemDisk) -> Result<Vec<Pick>, AllocError>
+    ensures last { IfOk result (λ picks. AreLastPicks disk.now.past.trail picks.items) }
+    ensures good { IfOk result (λ picks. AreGood disk.now.past.trail picks.items) }
+{
+    disk.last_writes(alloc)
 }

@@ -18,7 +18,7 @@ fn is_sync(act: &DiskAct) -> bool
 }
 
 // How many acts there are up to the last sync, with it.
-fn synced_len(acts: &[DiskAct]) -> usize
+pub(crate) fn synced_len(acts: &[DiskAct]) -> usize
     ensures { result ≡ synced_len acts.now }
 {
     let mut synced = 0;

@@ -4,7 +4,8 @@ use crate::commit::commit;
 use crate::drill::drill;
 use crate::reads::read_both;
 use disk_model::{
-    CopyFault, Disk, FuseDisk, MemDisk, Pick, QuietDisk, RestartFault, restart, settle_pages,
+    CopyFault, Disk, DiskAct, FuseDisk, MemDisk, Pick, QuietDisk, RestartFault, last_picks,
+    restart, settle_pages,
 };
 use std::alloc::{AllocError, Global};
 use std::test::Fail;
@@ -59,6 +60,27 @@ fn listed_calls_fail(rt: HostRuntime) -> Result<(), Fail> {
         assert_eq!(rt; got(&mut disk, 1), read, "read, failing {failing}");
         assert_eq!(rt; disk.acts(), acts, "acts, failing {failing}");
         assert!(rt; !disk.starved());
+    }
+    Ok(())
+}
+
+#[test]
+fn fails_after(rt: HostRuntime) -> Result<(), Fail> {
+    // the listed call; how many calls pass; which of the four syncs after the first succeed
+    for (listed, calls, ends) in [
+        (0, 0, [false, true, true, true]),
+        (0, 2, [true, true, false, true]),
+        (0, u64::MAX, [true, true, true, true]),
+        (3, 0, [false, false, true, true]),
+        (3, 1, [true, false, true, true]),
+    ] {
+        let mut disk = mem(rt.alloc(), 1, listed)?;
+        assert!(rt; synced(&mut disk));
+        disk.fail_after(3);
+        disk.fail_after(calls); // in place of the one before
+        for (n, ended) in ends.iter().enumerate() {
+            assert_eq!(rt; synced(&mut disk), *ended, "sync {n}, {calls} pass");
+        }
     }
     Ok(())
 }
@@ -137,6 +159,48 @@ fn restarts(rt: HostRuntime) -> Result<(), Fail> {
         assert_eq!(rt; got(&mut old, 0), Some(first));
         assert_eq!(rt; got(&mut old, 1), Some(second));
         assert_eq!(rt; old.acts(), 0);
+    }
+    Ok(())
+}
+
+#[test]
+fn last_writes(rt: HostRuntime) -> Result<(), Fail> {
+    let disk = busy(rt.alloc())?;
+    let picks = last_picks(rt.alloc(), &disk)?;
+    let expected = [Pick { page: 0, act: 2 }, Pick { page: 1, act: 4 }];
+    assert_eq!(rt; picks.as_slice(), expected.as_slice());
+    let mut high = restart(rt.alloc(), &disk, &picks)?;
+    assert_eq!(rt; high.pages(), 2);
+    assert_eq!(rt; got(&mut high, 0), Some(2));
+    assert_eq!(rt; got(&mut high, 1), Some(4));
+    // nothing was written since the sync
+    assert!(rt; synced(&mut high));
+    assert!(rt; last_picks(rt.alloc(), &high)?.is_empty());
+    Ok(())
+}
+
+// Whether a write succeeded, its page and its first byte.
+fn written(act: &DiskAct) -> Option<(bool, u32, u8)> {
+    match act {
+        DiskAct::Wrote(page, bytes) => Some((true, *page, bytes[0])),
+        DiskAct::Failed(page, bytes) => Some((false, *page, bytes[0])),
+        DiskAct::Synced => None,
+    }
+}
+
+#[test]
+fn trails(rt: HostRuntime) -> Result<(), Fail> {
+    let trail = busy(rt.alloc())?.into_trail();
+    let acts = [
+        Some((true, 0, 1)),
+        None,
+        Some((true, 0, 2)),
+        Some((true, 1, 3)),
+        Some((false, 1, 4)),
+    ];
+    assert_eq!(rt; trail.as_slice().len(), 5);
+    for (act, expected) in trail.as_slice().iter().zip(acts.iter()) {
+        assert_eq!(rt; written(act), *expected);
     }
     Ok(())
 }

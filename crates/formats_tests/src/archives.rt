@@ -1,6 +1,6 @@
 //! Archives: two against the bytes of another program, and one fault at a time.
 
-use crate::common::{ONES, TWOS, entries_of, joined};
+use crate::common::{NO_FILES, ONES, TWOS, entries_of, joined};
 use far_archive::{FarFault, WriteFault, read_far, write_far};
 use std::alloc::{AllocError, Global};
 use std::test::Fail;
@@ -115,6 +115,14 @@ fn faults(rt: HostRuntime) -> Result<(), Fail> {
     ];
     let bytes = text(rt.alloc(), &PAIR, 12288, 72, &wrapping)?;
     assert_eq!(rt; fault_of(bytes), Some(range(0)));
+    // The same, and a name far away, where there is one file.
+    for (at, patch, fault) in [
+        (64, [0xff, 0xff, 0xff, 0xff].as_slice(), name(0)),
+        (72, wrapping.as_slice(), range(0)),
+    ] {
+        let bytes = text(rt.alloc(), &ONE, 8192, at, patch)?;
+        assert_eq!(rt; fault_of(bytes), Some(fault), "of one file, at {at}");
+    }
     let both = [1, 0, 0, 0x10, 0, 0, 0, 0, 0, 0, 3, 0, 0, 0, 0, 0, 0, 0, 1];
     let bytes = text(rt.alloc(), &PAIR, 12288, 70, &both)?;
     assert_eq!(rt; fault_of(bytes), Some(name(0)));
@@ -143,6 +151,8 @@ fn lengths(rt: HostRuntime) -> Result<(), Fail> {
         let bytes = text(rt.alloc(), &PAIR, len, at, &[0])?;
         assert_eq!(rt; fault_of(bytes), None, "at {at}");
     }
+    let bare = text(rt.alloc(), &NO_FILES, 64, 0, &[])?;
+    assert!(rt; reads_back(Ok(bare), &NO_FILES, 64, &[]));
     Ok(())
 }
 

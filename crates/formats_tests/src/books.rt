@@ -1,6 +1,6 @@
 //! Books: of the packages of the format's examples, each refusal in its order, and a shelf.
 
-use crate::common::{ONES, TWOS, entries_of, joined, root_of_byte};
+use crate::common::{NO_FILES, ONES, TWOS, entries_of, joined, root_of_byte};
 use far_archive::{FarFault, write_far};
 use meta_contents::{ContentsFault, PackageNameFault};
 use package_book::{Book, META_LIMIT, PackageFault, Shelf, Shelved, book_of};
@@ -113,6 +113,7 @@ fn refuses(rt: HostRuntime) -> Result<(), Fail> {
             PackageFault::Far(FarFault::Magic)
         ),
         (meta_of(alloc, &[])?, PackageFault::NoContents),
+        (NO_FILES.to_vec(alloc)?, PackageFault::NoContents),
         (
             meta_of(alloc, &[(package, b"x")])?,
             PackageFault::NoContents

@@ -13,6 +13,13 @@ pub const ONES: &[u8; 64] = b"11111111111111111111111111111111111111111111111111
 /// The text of another one.
 pub const TWOS: &[u8; 64] = b"abcdef0123456789abcdef0123456789abcdef0123456789abcdef0123456789";
 
+/// An archive without files: a directory and names of no bytes, both at its end.
+pub const NO_FILES: [u8; 64] = [
+    200, 191, 11, 72, 173, 171, 197, 17, 48, 0, 0, 0, 0, 0, 0, 0, 68, 73, 82, 45, 45, 45, 45, 45,
+    64, 0, 0, 0, 0, 0, 0, 0, 0, 0, 0, 0, 0, 0, 0, 0, 68, 73, 82, 78, 65, 77, 69, 83, 64, 0, 0, 0,
+    0, 0, 0, 0, 0, 0, 0, 0, 0, 0, 0, 0,
+];
+
 /// The parts one after another.
 pub fn joined(alloc: Global, parts: &[&[u8]]) -> Result<Vec<u8>, AllocError> {
     let mut out = Vec::new(alloc);
