@@ -11,7 +11,7 @@ mod tail;
 mod write;
 
 pub use draft::{Draft, DraftEnd, KEPT_LIMIT, Long, PAGE_SIZE, PIECE_LIMIT, Whole};
-pub use laws::{blobs_are_their_pages, limits};
+pub use laws::{blobs_are_their_pages, landings_write_each_page_once, limits};
 pub use part::read_part;
 pub use read::{read_blob, root_of_blob};
 pub use write::{settle_blob, write_full};

@@ -1,4 +1,5 @@
 pub mod PagesAs
+pub mod Acts
 pub mod Parts
 pub mod RowText
 pub mod ReadSteps

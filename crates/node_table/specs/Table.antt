@@ -1,13 +1,15 @@
 -- The table of an image, and what the calls make of it.
-use Rattle.std.specs.Prelude.{ℕ, ◌≡◌, ◌+◌, ◌/◌, ◌⊎◌, ⊤, Bool, true, not, List, length, Option}
+use Rattle.std.specs.Prelude.{ℕ, ◌≡◌, ◌+◌, ◌*◌, ◌/◌, ◌⊎◌, ⊤, Bool, true, false, not, List, [], ◌∷◌, ◌++◌, length, Option}
 use Rattle.pkg_names.specs.declared.root.Root.{Root}
-use Rattle.disk_model.specs.Past.{Pages, page_at, Past}
-use Rattle.disk_model.specs.Images.{EachImage, SomeImage}
+use Rattle.disk_model.specs.declared.act.DiskAct.{DiskAct}
+use Rattle.disk_model.specs.declared.act.DiskAct.TheVariants.{Wrote, Synced}
+use Rattle.disk_model.specs.Past.{Page, Pages, page_at, Past}
+use Rattle.disk_model.specs.Images.{EachImage, SomeImage, row_acts, with_acts}
 use Rattle.image_layout.specs.declared.geometry.Geometry.{Geometry}
 use Rattle.image_layout.specs.declared.geometry.TheConstants.{SELECTOR_PAGE}
 use Rattle.image_layout.specs.declared.Place.{Place}
 use Rattle.image_layout.specs.declared.Place.TheVariants as place
-use Rattle.image_layout.specs.Geometry.{IsIn, table_start, table_region}
+use Rattle.image_layout.specs.Geometry.{IsIn, table_pages, table_start, table_region}
 use Rattle.node_table.specs.declared.entry.Entry.{Entry}
 use Rattle.node_table.specs.declared.entry.LoadFault.{LoadFault}
 use Rattle.node_table.specs.declared.entry.LoadFault.TheVariants.{Read, Damaged, NoMemory}
@@ -76,3 +78,21 @@ abbrev pub after_commit : TableView → Option Entry → List Root → CommitRep
 after_commit t add gone Done = committed t add gone
 after_commit t add gone NoNode = t
 after_commit t add gone Broke = record t { broken = true }
+
+-- Just this was done: a write of each page of a row, once and in order, and then these acts.
+pub record WritesRow (first count : ℕ) (others : List DiskAct) (old new : Option Past) : Type 0 where
+  pub pages : Pages
+  pub size : length pages ≡ count
+  pub acts : new ≡ with_acts old (row_acts first pages ++ others)
+
+-- what a commit to a copy does: it writes that copy, and syncs; then it writes the selector, and syncs
+abbrev pub Commits : Geometry → Bool → Option Past → Option Past → Type 0
+Commits g second old new =
+    (selector : Page)
+    × WritesRow (table_start g second) (table_pages g) (Synced ∷ Wrote SELECTOR_PAGE selector ∷ Synced ∷ []) old new
+
+-- what makes an empty table: it writes both copies and the selector, and syncs
+abbrev pub Formats : Geometry → Option Past → Option Past → Type 0
+Formats g old new =
+    (selector : Page)
+    × WritesRow (table_start g false) (2 * table_pages g) (Wrote SELECTOR_PAGE selector ∷ Synced ∷ []) old new

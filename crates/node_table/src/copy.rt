@@ -1,12 +1,13 @@
 //! Reading and writing a copy of the table, page after page.
 
-ghost use Rattle.std.specs.Prelude.{◌≡◌, ◌⊎◌, ℕ, [], ◌+◌, ◌*◌, ◌<◌, ◌≤◌, false, not, length, List, vec_capacity, OnOk, OnErr, IfOk, IfSome};
+ghost use Rattle.std.specs.Prelude.{◌≡◌, ◌⊎◌, ℕ, [], ◌∷◌, ◌+◌, ◌*◌, ◌<◌, ◌≤◌, false, not, length, List, vec_capacity, OnOk, OnErr, IfOk, IfSome};
+ghost use Rattle.disk_model.specs.declared.act.DiskAct.TheVariants.{Synced};
 ghost use Rattle.disk_model.specs.Past.{zero_page, IsPast, Rose};
 ghost use Rattle.disk_model.specs.Images.{EachImage, SomeImage, AtEach, IsWritten, WritesOnly, IsInRow};
 ghost use Rattle.image_layout.specs.declared.geometry.TheConstants.{SELECTOR_PAGE};
-ghost use Rattle.image_layout.specs.Geometry.{IsIn, IsWithinLimits, table_region, total_pages};
+ghost use Rattle.image_layout.specs.Geometry.{IsIn, IsWithinLimits, table_pages, table_start, table_region, total_pages};
 ghost use Rattle.node_table.specs.declared.entry.Entry.{Entry as EntryOf};
-ghost use Rattle.node_table.specs.Table.{HasTable, IsTablePage};
+ghost use Rattle.node_table.specs.Table.{HasTable, IsTablePage, WritesRow, Commits, Formats};
 ghost use Rattle.node_table.specs.Steps.{ReadAs, WrittenAs, IsChoice, IsRead, HasRows, HasLinks, AreSheets, LaysOut, HasCopy, IsSwitchPage};
 
 use crate::pages::{put_links, put_rows, take_links, take_rows};
@@ -132,6 +133,7 @@ pub(crate) fn write_rows<D: Disk>(
     requires rows { length rows.now ≡ 64 * count }
     ensures written { OnOk result ((j : ℕ) → j < count
         → WrittenAs (D.past disk.new) (first + j) (HasRows rows.now j)) }
+    ensures acts { OnOk result (WritesRow first count [] (D.past disk.old) (D.past disk.new)) }
     ensures only { WritesOnly (D.past disk.old) (D.past disk.new) (IsInRow first count) }
     ensures pages_stay { D.pages disk.new ≡ D.pages disk.old }
     ensures tie_stays { D.tie disk.new ≡ D.tie disk.old }
@@ -161,6 +163,7 @@ pub(crate) fn write_links<D: Disk>(
     requires links { length links.now ≡ 1024 * count }
     ensures written { OnOk result ((j : ℕ) → j < count
         → WrittenAs (D.past disk.new) (first + j) (HasLinks links.now j)) }
+    ensures acts { OnOk result (WritesRow first count [] (D.past disk.old) (D.past disk.new)) }
     ensures only { WritesOnly (D.past disk.old) (D.past disk.new) (IsInRow first count) }
     ensures pages_stay { D.pages disk.new ≡ D.pages disk.old }
     ensures tie_stays { D.tie disk.new ≡ D.tie disk.old }
@@ -192,6 +195,8 @@ pub(crate) fn settle_copy<D: Disk>(
     requires sheets { AreSheets geometry.now rows.now links.now }
     ensures settled { OnOk result
         (EachImage (D.past disk.new) (HasCopy geometry.now second rows.now links.now)) }
+    ensures acts { OnOk result (WritesRow (table_start geometry.now second)
+        (table_pages geometry.now) (Synced ∷ []) (D.past disk.old) (D.past disk.new)) }
     ensures only { WritesOnly (D.past disk.old) (D.past disk.new)
         (IsIn (table_region geometry.now second)) }
     ensures pages_stay { D.pages disk.new ≡ D.pages disk.old }
@@ -229,6 +234,7 @@ pub(crate) fn switch<D: Disk>(
     ensures done { OnOk result ((after : List EntryOf)
         → LaysOut geometry.now rows.now links.now after
         → EachImage (D.past disk.new) (HasTable geometry.now second after)) }
+    ensures acts { OnOk result (Commits geometry.now second (D.past disk.old) (D.past disk.new)) }
     ensures only { WritesOnly (D.past disk.old) (D.past disk.new)
         (IsSwitchPage geometry.now second) }
     ensures pages_stay { D.pages disk.new ≡ D.pages disk.old }
@@ -255,6 +261,7 @@ fn write_zeros<D: Disk>(disk: &mut D, first: u32, count: u32) -> Result<(), Disk
     requires pages { first + count ≤ D.pages disk.old }
     ensures written { OnOk result ((j : ℕ) → j < count
         → IsWritten (D.past disk.new) (first + j) zero_page) }
+    ensures acts { OnOk result (WritesRow first count [] (D.past disk.old) (D.past disk.new)) }
     ensures only { WritesOnly (D.past disk.old) (D.past disk.new) (IsInRow first count) }
     ensures pages_stay { D.pages disk.new ≡ D.pages disk.old }
     ensures tie_stays { D.tie disk.new ≡ D.tie disk.old }
@@ -276,6 +283,7 @@ pub(crate) fn write_empty<D: Disk>(disk: &mut D, geometry: &Geometry) -> Result<
     requires limits { IsWithinLimits geometry.now }
     requires room { total_pages geometry.now ≤ D.pages disk.old }
     ensures empty { OnOk result (EachImage (D.past disk.new) (HasTable geometry.now false [])) }
+    ensures acts { OnOk result (Formats geometry.now (D.past disk.old) (D.past disk.new)) }
     ensures only { WritesOnly (D.past disk.old) (D.past disk.new) (IsTablePage geometry.now) }
     ensures pages_stay { D.pages disk.new ≡ D.pages disk.old }
     ensures tie_stays { D.tie disk.new ≡ D.tie disk.old }

@@ -1,13 +1,13 @@
 //! The table, in memory and on the disk.
 
-ghost use Rattle.std.specs.Prelude.{◌≡◌, ◌⊎◌, ◌↔◌, ◌+◌, ◌<◌, ◌≤◌, false, [], length, option_copied, IfSome, IfOk, IfErr, OnOk, OnErr};
+ghost use Rattle.std.specs.Prelude.{◌≡◌, ◌⊎◌, ◌↔◌, ◌+◌, ◌<◌, ◌≤◌, false, not, [], length, option_copied, IfSome, IfOk, IfErr, OnOk, OnErr};
 ghost use Rattle.std.specs.Option.{ForSome};
 ghost use Rattle.disk_model.specs.Past.{IsPast, Rose};
 ghost use Rattle.disk_model.specs.Images.{EachImage, SomeImage, AtEach, WritesOnly};
 ghost use Rattle.image_layout.specs.Geometry.{IsWithinLimits, total_pages};
 ghost use Rattle.node_table.specs.Entries.{AreSound, MayCome, entry_of};
 ghost use Rattle.node_table.specs.Steps.{AreEmpty};
-ghost use Rattle.node_table.specs.Table.{Has, HasTable, Fits, HaveOneTable, HasCause, IsTablePage, IsCommitPage, committed, after_commit};
+ghost use Rattle.node_table.specs.Table.{Has, HasTable, Fits, HaveOneTable, HasCause, IsTablePage, IsCommitPage, Commits, Formats, committed, after_commit};
 
 use crate::admit::judge;
 use crate::copy::{read_table, write_empty};
@@ -58,6 +58,7 @@ impl Table {
         requires limits { IsWithinLimits geometry.now }
         requires room { total_pages geometry.now ≤ D.pages disk.old }
         ensures empty { OnOk result (EachImage (D.past disk.new) (HasTable geometry.now false [])) }
+        ensures acts { OnOk result (Formats geometry.now (D.past disk.old) (D.past disk.new)) }
         ensures only { WritesOnly (D.past disk.old) (D.past disk.new) (IsTablePage geometry.now) }
         ensures pages_stay { D.pages disk.new ≡ D.pages disk.old }
         ensures tie_stays { D.tie disk.new ≡ D.tie disk.old }
@@ -149,6 +150,8 @@ impl Table {
             → AtEach (D.past disk.old) (D.past disk.new) (λ image.
             Has self.old image ⊎ Has (committed self.old add drop.now) image) }
         ensures done { result ≡ CommitReply.Done → Fits (D.past disk.new) self.new }
+        ensures acts { result ≡ CommitReply.Done
+            → Commits self.old.geometry (not self.old.second) (D.past disk.old) (D.past disk.new) }
         ensures only { WritesOnly (D.past disk.old) (D.past disk.new) (IsCommitPage self.old) }
         ensures pages_stay { D.pages disk.new ≡ D.pages disk.old }
         ensures tie_stays { D.tie disk.new ≡ D.tie disk.old }

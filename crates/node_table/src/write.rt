@@ -6,7 +6,7 @@ ghost use Rattle.disk_model.specs.Past.{IsPast, Rose};
 ghost use Rattle.disk_model.specs.Images.{EachImage, AtEach, WritesOnly};
 ghost use Rattle.image_layout.specs.Geometry.{IsWithinLimits, total_pages};
 ghost use Rattle.node_table.specs.Entries.{AreSound, MayCome, without, with_added};
-ghost use Rattle.node_table.specs.Table.{HasTable};
+ghost use Rattle.node_table.specs.Table.{HasTable, Commits};
 ghost use Rattle.node_table.specs.Steps.{AreSheets, IsSwitchPage};
 
 use crate::copy::switch;
@@ -44,6 +44,8 @@ pub(crate) fn write_commit<D: Disk>(
         ⊎ HasTable geometry.now (not second) (with_added add.now (without gone.now entries.now)) image) }
     ensures done { result ≡ CommitReply.Done → EachImage (D.past disk.new)
         (HasTable geometry.now (not second) (with_added add.now (without gone.now entries.now))) }
+    ensures acts { result ≡ CommitReply.Done
+        → Commits geometry.now (not second) (D.past disk.old) (D.past disk.new) }
     ensures only { WritesOnly (D.past disk.old) (D.past disk.new)
         (IsSwitchPage geometry.now (not second)) }
     ensures pages_stay { D.pages disk.new ≡ D.pages disk.old }

@@ -1,11 +1,19 @@
-use Rattle.std.proofs.Common.{◌≡◌, ℕ, ◌+◌, ◌<◌, List, length, get_or, refl, inl, inr, sym, subst, ap, ◌∙◌, arith, length-drop}
+use Rattle.std.proofs.Common.{◌≡◌, ℕ, ◌+◌, ◌<◌, List, length, get_or, Result, Ok, Err, refl, inl, inr, sym, subst, ap, ◌∙◌, arith, length-drop}
+use Rattle.std.specs.Prelude.{OnErr}
 use Rattle.disk_model.proofs.ManyPages.{all_written_write}
 use Rattle.disk_model.proofs.Regions.{writes_write}
+use Rattle.disk_model.specs.Images.{with_acts}
 use Rattle.blob_pages.specs.Pages.{page_of}
 use Rattle.blob_pages.specs.Draft.{Progress}
-use Rattle.blob_pages.specs.Written.{place, IsOn, AreWritten}
+use Rattle.blob_pages.specs.Written.{place, IsOn, AreWritten, page_acts}
 use Rattle.blob_pages.proofs.Writing.{places_apart, written_next}
+use Rattle.blob_pages.proofs.Acts.{acts_page, acts_broke}
 use Rattle.blob_pages.proofs.write.write_full.Goals as goal
+
+-- what holds anyway holds where there is an error
+on_err : {T E : Type 0} (r : Result T E) (Q : Type 0) → Q → OnErr r Q
+on_err (Ok x) Q h = tt
+on_err (Err e) Q h = h
 
 pub overflow_add-start : goal.overflow_add-start
 overflow_add-start g c =
@@ -22,6 +30,16 @@ returns-in_err-write-clause-written g c = λ blob is before.
     let lt : k < length chain = omega (arith, full, c.loop-page.invariant.whole) in
     all_written_write (place c.args.start chain) (page_of blob) k (c.args.start + get_or chain c.pages.result 0) c.in-Some.page.now (disk.past c.loop-page.disk) (disk.past c.write.new.self)
     (λ i below e. places_apart c.args.start chain k c.requires.apart lt i below (sym at ∙ e)) (inr c.in_err-write.ensures.failed) (c.loop-page.invariant.written blob is before)
+
+pub returns-in_err-write-clause-broke : goal.returns-in_err-write-clause-broke
+returns-in_err-write-clause-broke g c = λ blob is.
+    let past = g.D.Disk.past in
+    let inv = c.loop-page.invariant in
+    let chain : List ℕ = c.args.chain.now in
+    let k : ℕ = c.loop-page.draft.pages in
+    let at : c.args.start + get_or chain c.pages.result 0 ≡ place c.args.start chain k = ap (λ (n : ℕ). c.args.start + get_or chain n 0) c.pages.ensures in
+    on_err c.from_residual.result _
+    (acts_broke (past c.args.disk.now) (past c.loop-page.disk) (past c.write.new.self) c.args.start chain blob c.args.draft.now.pages k (c.args.start + get_or chain c.pages.result 0) c.in-Some.page.now at (c.in-Some.ensures.page blob (inv.stands blob is)) (inv.acts blob is) c.in_err-write.ensures.failed)
 
 pub returns-in_err-write-clause-only : goal.returns-in_err-write-clause-only
 returns-in_err-write-clause-only g c =
@@ -59,6 +77,10 @@ loop-page-preserved g c =
       len = ap (λ (v : Progress). v.len) passed ∙ inv.len;
       hasher = ap (λ (v : Progress). v.hasher) passed ∙ inv.hasher;
       kept = ap (λ (v : Progress). v.kept) passed ∙ inv.kept;
+      forward = omega (arith, inv.forward, ap (λ (v : Progress). v.pages) passed);
+      acts = λ blob is.
+          acts_page (disk.past c.args.disk.now) (disk.past c.loop-page.disk) (disk.past c.write.new.self) c.args.start chain blob c.args.draft.now.pages k (c.args.start + get_or chain c.pages.result 0) c.in-Some.page.now inv.forward at (c.in-Some.ensures.page blob (inv.stands blob is)) (inv.acts blob is) wrote
+          ∙ ap (λ (n : ℕ). with_acts (disk.past c.args.disk.now) (page_acts c.args.start chain blob c.args.draft.now.pages n)) (sym (ap (λ (v : Progress). v.pages) passed));
       written = λ blob is before.
           subst (λ (n : ℕ). AreWritten (disk.past c.write.new.self) c.args.start chain blob n) (sym (ap (λ (v : Progress). v.pages) passed))
           (written_next c.args.start chain blob k (c.args.start + get_or chain c.pages.result 0) c.in-Some.page.now (disk.past c.loop-page.disk) (disk.past c.write.new.self) c.requires.apart lt at (c.in-Some.ensures.page blob (inv.stands blob is)) wrote (inv.written blob is before));

@@ -1,7 +1,7 @@
 use Rattle.std.proofs.Common.{◌≡◌, ℕ, ◌+◌, ◌*◌, ◌≤◌, List, length}
-use Rattle.disk_model.specs.Images.{WritesOnly}
+use Rattle.disk_model.specs.Images.{with_acts, WritesOnly}
 use Rattle.blob_pages.specs.Draft.{IsDraftOf}
-use Rattle.blob_pages.specs.Written.{IsOn, AreWritten}
+use Rattle.blob_pages.specs.Written.{IsOn, AreWritten, page_acts}
 use Rattle.blob_pages.proofs.write.write_full.Given as goal
 
 abbrev pub invariant-loop-page : goal.invariant-loop-page
@@ -14,6 +14,8 @@ invariant-loop-page g l =
       len : l.draft.len ≡ l.fn.draft.len;
       hasher : l.draft.hasher ≡ l.fn.draft.hasher;
       kept : l.draft.kept ≡ l.fn.draft.kept;
+      forward : l.fn.draft.pages ≤ l.draft.pages;
+      acts : (blob : List ℕ) → IsDraftOf l.fn.draft blob → disk.past l.disk ≡ with_acts (disk.past l.fn.disk) (page_acts l.start l.chain blob l.fn.draft.pages l.draft.pages);
       written : (blob : List ℕ) → IsDraftOf l.fn.draft blob → AreWritten (disk.past l.fn.disk) l.start l.chain blob l.fn.draft.pages → AreWritten (disk.past l.disk) l.start l.chain blob l.draft.pages;
       only : WritesOnly (disk.past l.fn.disk) (disk.past l.disk) (IsOn l.start l.chain);
       pages_stay : disk.pages l.disk ≡ disk.pages l.fn.disk;

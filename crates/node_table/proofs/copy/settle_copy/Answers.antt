@@ -1,12 +1,15 @@
 -- The pages that were written so far, and the copy at the end.
-use Rattle.std.proofs.Common.{ℕ, ◌+◌, ◌/◌, refl, ap, subst, inl, inr, arith}
+use Rattle.std.proofs.Common.{ℕ, ◌+◌, ◌/◌, [], ◌∷◌, refl, ap, subst, inl, inr, arith}
+use Rattle.disk_model.specs.declared.act.DiskAct.TheVariants.{Synced}
 use Rattle.disk_model.specs.Images.{IsInRow}
 use Rattle.disk_model.proofs.Regions.{writes_then, writes_sync}
-use Rattle.image_layout.specs.Geometry.{IsIn, table_region}
+use Rattle.image_layout.specs.Geometry.{IsIn, table_pages, table_region}
+use Rattle.node_table.specs.Table.{WritesRow}
 use Rattle.node_table.specs.Steps.{WrittenAs, HasRows, HasLinks}
 use Rattle.node_table.proofs.PagesAs.{as_outside}
 use Rattle.node_table.proofs.SwitchSteps.{rows_only, links_only, copy_settled}
 use Rattle.node_table.proofs.TableReads.{copy_within}
+use Rattle.node_table.proofs.Acts.{row_then, row_join}
 use Rattle.node_table.proofs.copy.settle_copy.Goals as goal
 
 pub returns-in_err-write_rows-clause-only : goal.returns-in_err-write_rows-clause-only
@@ -59,3 +62,14 @@ returns-clause-settled g c =
     (λ within. omega (arith, within.from, lt)) (c.in_ok-write_rows.ensures.written j lt) c.write_links.ensures.only))
     (λ j lt. subst (λ (n : ℕ). WrittenAs (past c.write_links.new.disk) (n + geometry.blobs / 64 + j) (HasLinks c.args.links.now j)) is (links j lt))
     c.in_ok-sync.ensures.synced
+
+pub returns-clause-acts : goal.returns-clause-acts
+returns-clause-acts g c =
+    let past = g.D.Disk.past in
+    let geometry = c.args.geometry.now in
+    let first = c.table_start-first.result in
+    let count = geometry.blobs / 64 in
+    subst (λ (n : ℕ). WritesRow n (table_pages geometry) (Synced ∷ []) (past c.args.disk.now) (past c.sync.new.self)) c.table_start-first.ensures
+    (row_then first (table_pages geometry) [] Synced (past c.args.disk.now) (past c.write_links.new.disk) (past c.sync.new.self)
+    (row_join first count (first + count) (geometry.data_pages / 1024) (past c.args.disk.now) (past c.write_rows.new.disk) (past c.write_links.new.disk) refl c.in_ok-write_rows.ensures.acts c.in_ok-write_links.ensures.acts)
+    c.in_ok-sync.ensures.synced)

@@ -1,10 +1,12 @@
 -- One line for each exit.
-use Rattle.std.proofs.Common.{refl, inl, inr, arith}
+use Rattle.std.proofs.Common.{[], ◌∷◌, refl, inl, inr, arith}
+use Rattle.disk_model.specs.declared.act.DiskAct.TheVariants.{Wrote, Synced}
 use Rattle.disk_model.proofs.Regions.{writes_wider, writes_write, writes_sync}
 use Rattle.image_layout.specs.declared.geometry.TheConstants.{SELECTOR_PAGE}
-use Rattle.image_layout.specs.Geometry.{IsIn, table_region}
+use Rattle.image_layout.specs.Geometry.{IsIn, table_pages, table_start, table_region}
 use Rattle.node_table.specs.Steps.{IsSwitchPage}
 use Rattle.node_table.proofs.SwitchSteps.{at1, at2, at3, done}
+use Rattle.node_table.proofs.Acts.{row_then}
 use Rattle.node_table.proofs.copy.switch.Goals as goal
 
 pub returns-in_err-settle_copy-clause-each_moment : goal.returns-in_err-settle_copy-clause-each_moment
@@ -64,3 +66,15 @@ returns-clause-only g c =
     writes_sync Region (past c.args.disk.now) (past c.write.new.self) (past c.sync.new.self) (inl c.in_ok-sync.ensures.synced)
     (writes_write Region SELECTOR_PAGE c.selector_page.result (past c.args.disk.now) (past c.settle_copy.new.disk) (past c.write.new.self) (inl refl) (inl c.in_ok-write.ensures.wrote)
     (writes_wider (IsIn (table_region c.args.geometry.now c.args.second)) Region (past c.args.disk.now) (past c.settle_copy.new.disk) (λ n within. inr within) c.settle_copy.ensures.only))
+
+pub returns-clause-acts : goal.returns-clause-acts
+returns-clause-acts g c =
+    let past = g.D.Disk.past in
+    let geometry = c.args.geometry.now in
+    let first = table_start geometry c.args.second in
+    let selector = c.selector_page.result in (
+      selector,
+      row_then first (table_pages geometry) (Synced ∷ Wrote SELECTOR_PAGE selector ∷ []) Synced (past c.args.disk.now) (past c.write.new.self) (past c.sync.new.self)
+          (row_then first (table_pages geometry) (Synced ∷ []) (Wrote SELECTOR_PAGE selector) (past c.args.disk.now) (past c.settle_copy.new.disk) (past c.write.new.self) c.in_ok-settle_copy.ensures.acts c.in_ok-write.ensures.wrote)
+          c.in_ok-sync.ensures.synced,
+    )

@@ -4,6 +4,7 @@ use Rattle.disk_model.proofs.Regions.{writes_write}
 use Rattle.node_table.specs.Spelling.{link_on}
 use Rattle.node_table.proofs.PagesAs.{as_more}
 use Rattle.node_table.proofs.Parts.{Holds, holds_part}
+use Rattle.node_table.proofs.Acts.{row_none, row_more}
 use Rattle.node_table.proofs.copy.write_links.Goals as goal
 
 pub returns-in_err-write-clause-only : goal.returns-in_err-write-clause-only
@@ -23,6 +24,7 @@ loop-j-preserved g c =
     record {
       written = as_more c.args.first j page (Holds link_on 1024 c.args.links.now 0) (disk.past c.loop-j.disk) (disk.past c.write.new.self) wrote
           (holds_part link_on 1024 c.args.links.now 0 j (1024 * j) (1024 * j + 1024) page refl refl c.put_links.ensures) inv.written;
+      acts = row_more c.args.first j (c.args.first + j) c.put_links.new.page (disk.past c.args.disk.now) (disk.past c.loop-j.disk) (disk.past c.write.new.self) refl inv.acts wrote;
       only = writes_write (IsInRow c.args.first c.args.count) (c.args.first + j) page (disk.past c.args.disk.now) (disk.past c.loop-j.disk) (disk.past c.write.new.self)
           (record { from = omega arith; below = omega (arith, c.loop-j-test.true) }) (inl wrote) inv.only;
       pages_stay = step.pages_stay ∙ inv.pages_stay;

@@ -4,6 +4,7 @@ use Rattle.disk_model.proofs.Regions.{writes_write}
 use Rattle.node_table.specs.Spelling.{row_on, unused_row}
 use Rattle.node_table.proofs.PagesAs.{as_more}
 use Rattle.node_table.proofs.Parts.{Holds, holds_part}
+use Rattle.node_table.proofs.Acts.{row_none, row_more}
 use Rattle.node_table.proofs.copy.write_rows.Goals as goal
 
 pub returns-in_err-write-clause-only : goal.returns-in_err-write-clause-only
@@ -23,6 +24,7 @@ loop-j-preserved g c =
     record {
       written = as_more c.args.first j page (Holds row_on 64 c.args.rows.now unused_row) (disk.past c.loop-j.disk) (disk.past c.write.new.self) wrote
           (holds_part row_on 64 c.args.rows.now unused_row j (64 * j) (64 * j + 64) page refl refl c.put_rows.ensures) inv.written;
+      acts = row_more c.args.first j (c.args.first + j) c.put_rows.new.page (disk.past c.args.disk.now) (disk.past c.loop-j.disk) (disk.past c.write.new.self) refl inv.acts wrote;
       only = writes_write (IsInRow c.args.first c.args.count) (c.args.first + j) page (disk.past c.args.disk.now) (disk.past c.loop-j.disk) (disk.past c.write.new.self)
           (record { from = omega arith; below = omega (arith, c.loop-j-test.true) }) (inl wrote) inv.only;
       pages_stay = step.pages_stay ∙ inv.pages_stay;

@@ -1,7 +1,8 @@
-use Rattle.std.proofs.Common.{◌≡◌, ℕ, ◌+◌, ◌<◌, ◌≤◌, IfSome}
+use Rattle.std.proofs.Common.{◌≡◌, ℕ, ◌+◌, ◌<◌, ◌≤◌, [], IfSome}
 use Rattle.disk_model.specs.Past.{IsPast}
 use Rattle.disk_model.specs.Images.{IsInRow, WritesOnly}
 use Rattle.node_table.specs.Steps.{WrittenAs, HasRows}
+use Rattle.node_table.specs.Table.{WritesRow}
 use Rattle.node_table.proofs.copy.write_rows.Given as goal
 
 abbrev pub invariant-loop-j : goal.invariant-loop-j
@@ -9,6 +10,7 @@ invariant-loop-j g l =
     let disk = g.D.Disk in
     record {
       written : (i : ℕ) → i < l.j → WrittenAs (disk.past l.disk) (l.first + i) (HasRows l.rows i);
+      acts : WritesRow l.first l.j [] (disk.past l.fn.disk) (disk.past l.disk);
       only : WritesOnly (disk.past l.fn.disk) (disk.past l.disk) (IsInRow l.first l.count);
       pages_stay : disk.pages l.disk ≡ disk.pages l.fn.disk;
       tie_stays : disk.tie l.disk ≡ disk.tie l.fn.disk;

@@ -1,9 +1,10 @@
-use Rattle.std.proofs.Common.{◌+◌, ◌∙◌, ap, inl, inr, arith}
+use Rattle.std.proofs.Common.{◌+◌, refl, ◌∙◌, ap, inl, inr, arith}
 use Rattle.disk_model.specs.Past.{Page, zero_page, with_act}
 use Rattle.disk_model.specs.declared.act.DiskAct.TheVariants.{Wrote}
 use Rattle.disk_model.specs.Images.{IsInRow}
 use Rattle.disk_model.proofs.Regions.{writes_write}
 use Rattle.disk_model.proofs.ManyPages.{all_written_more}
+use Rattle.node_table.proofs.Acts.{row_none, row_more}
 use Rattle.node_table.proofs.copy.write_zeros.Goals as goal
 
 pub returns-in_err-write-clause-only : goal.returns-in_err-write-clause-only
@@ -21,6 +22,7 @@ loop-j-preserved g c =
     let wrote = c.in_ok-write.ensures.wrote in
     record {
       written = all_written_more (λ i. c.args.first + i) (λ _. zero_page) j (disk.past c.loop-j.disk) (disk.past c.write.new.self) (λ i below e. omega (arith, e, below)) (wrote ∙ ap (λ (page : Page). with_act (disk.past c.loop-j.disk) (Wrote (c.args.first + j) page)) c.zero_page-page.ensures) inv.written;
+      acts = row_more c.args.first j (c.args.first + j) c.zero_page-page.result (disk.past c.args.disk.now) (disk.past c.loop-j.disk) (disk.past c.write.new.self) refl inv.acts wrote;
       only = writes_write (IsInRow c.args.first c.args.count) (c.args.first + j) c.zero_page-page.result (disk.past c.args.disk.now) (disk.past c.loop-j.disk) (disk.past c.write.new.self)
           (record { from = omega arith; below = omega (arith, c.loop-j-test.true) }) (inl wrote) inv.only;
       pages_stay = step.pages_stay ∙ inv.pages_stay;
