@@ -1,8 +1,9 @@
 -- The stock of a disk that is loaded.
-use Rattle.std.proofs.Common.{inl, inr, ◌≡◌, ℕ, zero, suc, ◌<◌, Bool, true, false, List, [], ◌∷◌, length, get_or, Option, Some, None, unwrap_or, All, refl, sym, ap, subst, ◌∙◌, arith}
+use Rattle.std.proofs.Common.{inl, inr, ◌≡◌, ℕ, zero, suc, ◌<◌, Bool, true, false, List, [], ◌∷◌, ◌++◌, length, get_or, Option, Some, None, IfSome, unwrap_or, All, refl, sym, ap, subst, ◌∙◌, arith, length-append}
 use Rattle.std.specs.Prelude.{find}
 use Rattle.std.specs.Option.{option_map}
 use Rattle.std.proofs.lemmas.Bool.{cases_lt, cases_Bool}
+use Rattle.std.proofs.lemmas.List.{get_or_at}
 use Rattle.pkg_names.specs.Root.{root_eq}
 use Rattle.pkg_names.proofs.Roots.{root_eq-true, root_eq-refl}
 use Rattle.pkg_merkle.specs.Merkle.{merkle_root}
@@ -10,12 +11,16 @@ use Rattle.disk_model.specs.Past.{Past, Pages}
 use Rattle.disk_model.specs.Images.{SomeImage}
 use Rattle.disk_model.proofs.ReadPages.{some_weaker}
 use Rattle.image_layout.specs.declared.geometry.Geometry.{Geometry}
+use Rattle.image_layout.specs.declared.Place.{Place}
+use Rattle.image_layout.specs.declared.Place.TheVariants as place
 use Rattle.pkg_names.specs.declared.root.Root.{Root}
 use Rattle.node_table.specs.declared.entry.Entry.{Entry}
+use Rattle.node_table.specs.declared.entry.LoadFault.{LoadFault}
+use Rattle.node_table.specs.declared.entry.LoadFault.TheVariants.{Read, Damaged, NoMemory}
 use Rattle.node_table.specs.Entries.{AreSound, entry_of}
-use Rattle.node_table.specs.Table.{TableView, HasTable, Has}
-use Rattle.node_table.proofs.Tables.{table_is_one}
-use Rattle.blob_disk.specs.Stock.{blob_bytes, IsGood, HasBlobs, Stores, HaveOneStock}
+use Rattle.node_table.specs.Table.{TableView, HasTable, Has, HasCause as TableCause}
+use Rattle.node_table.proofs.Tables.{table_is_one, table_not_damaged}
+use Rattle.blob_disk.specs.Stock.{blob_bytes, IsGood, HasBlobs, Stores, HaveOneStock, IsFirstRotten, IsDamagedAt, HasCause, IsNotDamaged}
 use Rattle.blob_disk.proofs.Placing.{found_at}
 
 -- where all images have one stock, the table that was loaded is its table
@@ -77,3 +82,45 @@ pub stock_of : (told : Option Past) (g : Geometry) (t : TableView) → t.geometr
 stock_of told g t geometry sound some =
     some_weaker (λ image. HasTable g t.second t.entries image × All (IsGood g image) t.entries) (λ image. (contents : Root → List ℕ) × HasBlobs t contents image) told
     (λ image p. has_blobs t image sound (subst (λ (x : Geometry). HasTable x t.second t.entries image) (sym geometry) p.0) (subst (λ (x : Geometry). All (IsGood x image) t.entries) (sym geometry) p.1)) some
+
+-- Where all its blobs have bytes of their roots, none is rotten.
+good_not_rotten : (g : Geometry) (image : Pages) (entries : List Entry) (root : Root) → All (IsGood g image) entries → IsFirstRotten g image entries root → ⊥
+good_not_rotten g image entries root good first =
+    let n : ℕ = length first.before in
+    let all : All (IsGood g image) (first.before ++ first.entry ∷ first.behind) = subst (λ (l : List Entry). All (IsGood g image) l) first.are good in
+    let below : n < length (first.before ++ first.entry ∷ first.behind) = omega (arith, length-append first.before (first.entry ∷ first.behind)) in
+    first.rotten (subst (IsGood g image) (get_or_at first.before first.entry first.behind first.entry n refl) (all n first.entry below))
+
+-- An image that has blobs is damaged nowhere.
+not_damaged_at : (t : TableView) (contents : Root → List ℕ) (found : Place) (image : Pages) → HasBlobs t contents image → IsDamagedAt t.geometry found image → ⊥
+not_damaged_at t contents place.Super image has damage = damage
+not_damaged_at t contents place.Selector image has damage = table_not_damaged t.geometry t.second t.entries place.Selector image has.table damage
+not_damaged_at t contents (place.Table page) image has damage = table_not_damaged t.geometry t.second t.entries (place.Table page) image has.table damage
+not_damaged_at t contents (place.Blob root) image has damage =
+    let same = table_is_one t.geometry t.second damage.0 t.entries damage.1 image has.table damage.2 in
+    let good : All (IsGood t.geometry image) t.entries = λ k d below. ap merkle_root (has.bytes k d below) ∙ has.roots k d below in
+    good_not_rotten t.geometry image damage.1 root (subst (λ (l : List Entry). All (IsGood t.geometry image) l) same.1 good) damage.3
+not_damaged_at t contents (place.SlotPlace slot) image has damage = damage
+
+-- So where all images have one stock, none is damaged.
+pub never_damaged : (told : Option Past) (g : Geometry) (contents : Root → List ℕ) → HaveOneStock told g contents → (fault : LoadFault) → HasCause told g fault → IfSome told (λ (past : Past). IsNotDamaged fault)
+never_damaged None g contents one fault cause = tt
+never_damaged (Some past) g contents one Read cause = tt
+never_damaged (Some past) g contents one NoMemory cause = tt
+never_damaged (Some past) g contents one (Damaged found) cause =
+    not_damaged_at (record { geometry = g; second = one.0; entries = one.1; broken = false }) contents found cause.0 (one.2 cause.0 cause.1) cause.2
+
+-- what was loaded, under the names that the blobs' checks are told
+pub loaded_some : (told mid : Option Past) (g : Geometry) (t : TableView) (entries : List Entry) → mid ≡ told → entries ≡ t.entries → t.geometry ≡ g → SomeImage told (Has t) → SomeImage mid (HasTable g t.second entries)
+loaded_some told mid g t entries stays list geometry some =
+    subst (λ (o : Option Past). SomeImage o (HasTable g t.second entries)) (sym stays)
+    (subst (λ (l : List Entry). SomeImage told (HasTable g t.second l)) (sym list)
+    (subst (λ (x : Geometry). SomeImage told (HasTable x t.second t.entries)) geometry some))
+
+-- nor does the table's own loading find damage
+pub table_never : (told : Option Past) (g : Geometry) (contents : Root → List ℕ) → HaveOneStock told g contents → (fault : LoadFault) → TableCause told g fault → IfSome told (λ (past : Past). IsNotDamaged fault)
+table_never None g contents one fault cause = tt
+table_never (Some past) g contents one Read cause = tt
+table_never (Some past) g contents one NoMemory cause = tt
+table_never (Some past) g contents one (Damaged found) cause =
+    table_not_damaged g one.0 one.1 found cause.0 (one.2 cause.0 cause.1).table cause.2

@@ -1,5 +1,5 @@
 -- What a commit of the table makes of the blobs: at each moment each image has those before or those after.
-use Rattle.std.proofs.Common.{inl, inr, ◌≡◌, ◌⊎◌, ℕ, ◌+◌, ◌<◌, ◌≤◌, Bool, not, List, [], ◌∷◌, ◌++◌, length, get_or, Option, Some, Result, Ok, Err, OnOk, All, filter, refl, sym, ap, subst, ◌∙◌, arith}
+use Rattle.std.proofs.Common.{inl, inr, ◌≡◌, ◌⊎◌, ℕ, ◌+◌, ◌<◌, ◌≤◌, Bool, not, List, [], ◌∷◌, ◌++◌, length, get_or, Option, Some, Result, Ok, Err, OnOk, OnErr, All, filter, refl, sym, ap, subst, ◌∙◌, arith}
 use Rattle.std.proofs.lemmas.Bool.{cases_Bool}
 use Rattle.std.proofs.lemmas.List.{length_push, get_or_default}
 use Rattle.std.proofs.lemmas.List.Elements.{All-push, All-nil, All-cons, All-head, All-tail}
@@ -19,6 +19,7 @@ use Rattle.blob_pages.specs.Pages.{page_count}
 use Rattle.blob_pages.specs.Written.{IsOn, AreWritten, AreSettled}
 use Rattle.blob_pages.specs.Chains.{bytes_in}
 use Rattle.blob_pages.proofs.ImageBytes.{bytes_lasts, settled_bytes}
+use Rattle.blob_disk.specs.Drafts.{with_flag}
 use Rattle.blob_disk.specs.Stock.{blob_bytes, HasBlobs, Stores}
 use Rattle.blob_disk.proofs.Placing.{IsBehind, on_data, stores_outside}
 
@@ -31,7 +32,7 @@ bytes_of : (t : TableView) (contents : Root → List ℕ) (image : Pages) → Ha
 bytes_of t contents image has = record { bytes = has.bytes; roots = has.roots }
 
 -- the pages of a commit lie before the data
-commit_before_data : (t : TableView) (n : ℕ) → IsCommitPage t n → n < data_start t.geometry
+pub commit_before_data : (t : TableView) (n : ℕ) → IsCommitPage t n → n < data_start t.geometry
 commit_before_data t n (inl e) = table_before_data t.geometry n (inl e)
 commit_before_data t n (inr within) = table_before_data t.geometry n (inr (not t.second, within))
 
@@ -172,3 +173,15 @@ module _ (t : TableView) (entry : Entry) (limits : IsWithinLimits t.geometry) (b
 
     pub stores_new : Fits new (committed t (Some entry) []) → Stores new (committed t (Some entry) []) contents
     stores_new fits = commit_stores t (with_added (Some entry) (without [] t.entries)) (not t.second) contents mid new only next fits
+
+pub any_ok : {T E A : Type 0} (r : Result T E) → A → OnOk r A
+any_ok (Ok x) a = a
+any_ok (Err e) a = tt
+
+pub mapped_err : {T E A B : Type 0} (r : Result T E) → (A → B) → OnErr r A → OnErr r B
+mapped_err (Ok x) f a = tt
+mapped_err (Err e) f a = f a
+
+-- a table whose flag is set has that flag
+pub own_flag : (t now : TableView) (flag : Bool) → now ≡ with_flag flag t → now ≡ with_flag now.broken t
+own_flag t now flag is = subst (λ (v : TableView). v ≡ with_flag v.broken t) (sym is) refl

@@ -11,3 +11,6 @@ pub mod Moving
 pub mod WholeBlobs
 pub mod Removing
 pub mod Rooms
+pub mod Lending
+pub mod FewWrites
+pub mod OwnChains

@@ -1,22 +1,19 @@
 -- An entry goes from the drafts to the end of the stock.
-use Rattle.std.proofs.Common.{inl, inr, ◌≡◌, ◌⊎◌, ◌↔◌, ℕ, suc, ◌+◌, ◌-◌, ◌/◌, ◌<◌, ◌≤◌, Bool, List, [], ◌∷◌, ◌++◌, length, take, drop, get_or, remove, Option, Some, All, Any, Contains, true, false, append_assoc, refl, sym, ap, subst, ◌∙◌, arith, length-append, vec_capacity, Vec}
+use Rattle.std.proofs.Common.{inl, inr, ◌≡◌, ◌⊎◌, ◌↔◌, ℕ, suc, ◌+◌, ◌-◌, ◌/◌, ◌<◌, ◌≤◌, Bool, List, [], ◌∷◌, ◌++◌, length, take, drop, get_or, remove, Option, Some, All, Any, Contains, true, refl, sym, ap, subst, ◌∙◌, arith, length-append, vec_capacity, Vec}
 use Rattle.std.specs.List.{AllPairs}
 use Rattle.std.specs.declared.alloc.Global.{Global}
-use Rattle.std.proofs.lemmas.Bool.{cases_lt, cases_Bool}
+use Rattle.std.proofs.lemmas.Bool.{cases_lt}
 use Rattle.std.proofs.lemmas.List.{get_or_append_left, get_or-append-add, get_or-append_right, get_or_at, get_or_default, length_push}
 use Rattle.std.proofs.lemmas.List.Edits.{length-remove, get_or-remove_below, get_or-remove_above}
 use Rattle.std.proofs.lemmas.List.Elements.{All-append, All-take, All-drop, All-push}
 use Rattle.std.proofs.lemmas.List.Quantifiers.{all_pairs_push, all_pairs_remove}
 use Rattle.std.proofs.lemmas.List.Sums.{sum_by-append, sum_by-cons, sum_by_push}
 use Rattle.image_layout.specs.declared.geometry.Geometry.{Geometry}
-use Rattle.image_layout.specs.Geometry.{IsWithinLimits, data_start}
+use Rattle.image_layout.specs.Geometry.{data_start}
 use Rattle.node_table.specs.declared.entry.Entry.{Entry}
-use Rattle.node_table.specs.Entries.{IsEntry, AreSound, MayStandTogether, MayCome, IsChained, entry_of}
+use Rattle.node_table.specs.Entries.{IsEntry, AreSound, MayStandTogether, MayCome, IsChained}
 use Rattle.node_table.specs.Table.{TableView, committed, IsCommitPage}
 use Rattle.pkg_names.specs.declared.root.Root.{Root}
-use Rattle.pkg_names.specs.Root.{root_eq}
-use Rattle.page_pool.specs.Flags.{IsTaken}
-use Rattle.blob_disk.specs.Chains.{draft_place}
 use Rattle.disk_model.specs.Past.{Past}
 use Rattle.disk_model.specs.Images.{AtEach, WritesOnly}
 use Rattle.pkg_merkle.specs.Merkle.{merkle_root}
@@ -24,10 +21,10 @@ use Rattle.blob_pages.specs.Pages.{open_page}
 use Rattle.blob_pages.specs.Written.{IsOn, AreWritten}
 use Rattle.blob_disk.specs.Stock.{HasBlobs, Stores}
 use Rattle.blob_disk.specs.Pooled.{page_sum, IsPooled}
-use Rattle.blob_disk.specs.Drafts.{AreBlobs, BlobsView}
+use Rattle.blob_disk.specs.Drafts.{AreBlobs, BlobsView, with_flag, with_failed}
 use Rattle.blob_disk.proofs.Pooling.{any_left, any_right, any_split}
-use Rattle.blob_disk.proofs.SoundLists.{split_at, sound_remove, remove-append, find_place, entry_taken, middle_apart}
-use Rattle.blob_disk.proofs.Placing.{IsBehind, draft_behind}
+use Rattle.blob_disk.proofs.SoundLists.{split_at}
+use Rattle.blob_disk.proofs.Placing.{IsBehind}
 use Rattle.blob_disk.proofs.Committing.{without_none}
 
 -- what is left of a list was at another place than the one that went
@@ -166,25 +163,24 @@ landed_fields t now ds left i e flags spare noted broken are below here now_is l
       limits = are.limits;
       sound = subst (λ (l : List Entry). AreSound t.geometry l) same (sound_move t.geometry es ds i e below here are.sound);
       pool = subst (λ (l : List Entry). IsPooled l flags t.geometry.data_pages) same (pooled_move es ds i e flags t.geometry.data_pages below here are.pool);
-      noted = omega (arith, are.noted, room);
+      noted = λ whole. omega (arith, are.noted whole, room);
       flag = are.flag;
     } in
     subst (λ (v : TableView). AreBlobs v left flags noted broken) (sym now_is)
     (subst (λ (l : List Entry). AreBlobs after l flags noted broken) (sym left_is) there)
 
--- the fields after a draft's entry has gone, and its pages were given back
-pub with_dropped : (t now : TableView) (ds left : List Entry) (i : ℕ) (flags after : List Bool) (spare noted : Vec ℕ Global) (broken flag : Bool) → AreBlobs t ds flags spare broken → i < length ds → now.geometry ≡ t.geometry → now.entries ≡ t.entries → left ≡ remove ds i → vec_capacity spare ≤ vec_capacity noted → IsPooled (t.entries ++ remove ds i) after t.geometry.data_pages → flag ≡ true → AreBlobs now left after noted flag
-with_dropped t now ds left i flags after spare noted broken flag are below geometry entries left_is room pooled broke =
-    let es : List Entry = t.entries in
-    let all : es ++ remove ds i ≡ now.entries ++ left = ap (λ (l : List Entry). l ++ remove ds i) (sym entries) ∙ ap (λ (l : List Entry). now.entries ++ l) (sym left_is) in
-    let sound : AreSound t.geometry (es ++ remove ds i) = subst (λ (l : List Entry). AreSound t.geometry l) (remove-append es ds i) (sound_remove t.geometry (es ++ ds) (length es + i) (omega (arith, below, length-append es ds)) are.sound) in
-    record {
-      limits = subst (λ (g : Geometry). IsWithinLimits g) (sym geometry) are.limits;
-      sound = subst (λ (g : Geometry). AreSound g (now.entries ++ left)) (sym geometry) (subst (λ (l : List Entry). AreSound t.geometry l) all sound);
-      pool = subst (λ (g : Geometry). IsPooled (now.entries ++ left) after g.data_pages) (sym geometry) (subst (λ (l : List Entry). IsPooled l after t.geometry.data_pages) all pooled);
-      noted = omega (arith, are.noted, room, ap (λ (g : Geometry). g.data_pages) geometry);
-      flag = λ is. broke;
-    }
+-- the fields after a write has failed
+pub failed_fields : (t now : TableView) (ds left : List Entry) (flags : List Bool) (spare noted : Vec ℕ Global) (broken : Bool) → AreBlobs t ds flags spare broken → now ≡ with_flag now.broken t → left ≡ ds → AreBlobs now left flags noted true
+failed_fields t now ds left flags spare noted broken are now_is left_is =
+    let there : AreBlobs (with_flag now.broken t) ds flags noted true = record {
+      limits = are.limits;
+      sound = are.sound;
+      pool = are.pool;
+      noted = λ whole. absurd (cc whole);
+      flag = λ is. refl;
+    } in
+    subst (λ (v : TableView). AreBlobs v left flags noted true) (sym now_is)
+    (subst (λ (l : List Entry). AreBlobs (with_flag now.broken t) l flags noted true) (sym left_is) there)
 
 -- an entry behind the stock may come to it
 pub behind_comes : (g : Geometry) (entries : List Entry) (entry : Entry) → IsBehind g entries entry → MayCome g entries entry
@@ -199,70 +195,16 @@ behind_comes g entries entry behind =
           apart.chains page chained.4 (k, below, get_or_default entry.pages k page d below);
     }
 
--- the entry that was taken out of the drafts
-module _ (t : TableView) (ds : List Entry) (flags : List Bool) (spare : Vec ℕ Global) (broken : Bool) (are : AreBlobs t ds flags spare broken)
-    (root : Root) (entry e : Entry) (found : entry_of ds root ≡ Some entry) (was : (d : Entry) → get_or ds (draft_place root ds) d ≡ e) where
-  at_place : (draft_place root ds < length ds) × ((d : Entry) → get_or ds (draft_place root ds) d ≡ entry)
-  at_place = find_place (λ (other : Entry). root_eq root other.root) ds entry found
-
-  pub taken_below : draft_place root ds < length ds
-  taken_below = at_place.0
-
-  pub taken_is : entry ≡ e
-  taken_is = sym (at_place.1 entry) ∙ was entry
-
-  pub taken_behind : IsBehind t.geometry t.entries e
-  taken_behind = subst (λ (o : Entry). IsBehind t.geometry t.entries o) taken_is (draft_behind t.geometry t.entries ds root entry are.sound found)
-
-  pub taken_comes : MayCome t.geometry t.entries e
-  taken_comes = behind_comes t.geometry t.entries e taken_behind
-
-  pub taken_node : length t.entries < t.geometry.blobs
-  taken_node = omega (arith, are.sound.room, length-append t.entries ds, taken_below)
-
-  taken_split : t.entries ++ ds ≡ (t.entries ++ take (draft_place root ds) ds) ++ e ∷ drop (suc (draft_place root ds)) ds
-  taken_split = split_at t.entries ds (draft_place root ds) e taken_below was
-
-  taken_pooled : IsPooled ((t.entries ++ take (draft_place root ds) ds) ++ e ∷ drop (suc (draft_place root ds)) ds) flags t.geometry.data_pages
-  taken_pooled = subst (λ (l : List Entry). IsPooled l flags t.geometry.data_pages) taken_split are.pool
-
-  taken_sound : AreSound t.geometry ((t.entries ++ take (draft_place root ds) ds) ++ e ∷ drop (suc (draft_place root ds)) ds)
-  taken_sound = subst (λ (l : List Entry). AreSound t.geometry l) taken_split are.sound
-
-  -- there is room to note its pages
-  pub taken_few : length e.pages ≤ vec_capacity spare
-  taken_few =
-      let first : List Entry = t.entries ++ take (draft_place root ds) ds in
-      let others : List Entry = drop (suc (draft_place root ds)) ds in
-      let pages : Entry → ℕ = λ other. length other.pages in
-      omega (arith, are.noted, taken_pooled.free, sum_by-append pages first (e ∷ others), sum_by-cons pages e others)
-
-  pub taken_taken : All (IsTaken flags) e.pages
-  taken_taken = entry_taken (t.entries ++ take (draft_place root ds) ds) (drop (suc (draft_place root ds)) ds) e flags t.geometry.data_pages taken_pooled
-
-  -- its pages are given back
-  pub taken_given : (after : List Bool) → ((before behind : List Entry) (other : Entry) (count : ℕ) → other.pages ≡ e.pages → ((page : ℕ) → IsChained (before ++ behind) page → Contains other.pages page → ⊥) → IsPooled (before ++ other ∷ behind) flags count → IsPooled (before ++ behind) after count) → IsPooled (t.entries ++ remove ds (draft_place root ds)) after t.geometry.data_pages
-  taken_given after give =
-      let first : List Entry = take (draft_place root ds) ds in
-      let others : List Entry = drop (suc (draft_place root ds)) ds in
-      subst (λ (l : List Entry). IsPooled l after t.geometry.data_pages) (append_assoc t.entries first others)
-      (give (t.entries ++ first) others e t.geometry.data_pages refl (middle_apart t.geometry (t.entries ++ first) others e taken_sound) taken_pooled)
-
--- where the blobs are not broken, the table isn't
-pub table_unbroken : (t : TableView) (broken : Bool) → (t.broken ≡ true → broken ≡ true) → broken ≡ false → t.broken ≡ false
-table_unbroken t broken flag whole =
-    elim (cases_Bool t.broken) [
-      | inl is ↦
-          let e : true ≡ false = sym (flag is) ∙ whole in
-          absurd (cc e)
-      | inr not ↦ not
-    ]
-
 abbrev pub view_of : TableView → List Entry → Bool → BlobsView
 view_of t drafts broken = record { table = t; drafts = drafts; broken = broken }
 
 pub same_view : (t s : TableView) (a b : List Entry) (broken : Bool) → t ≡ s → a ≡ b → view_of t a broken ≡ view_of s b broken
 same_view t s a b broken table drafts = ap (λ (x : TableView). view_of x a broken) table ∙ ap (λ (l : List Entry). view_of s l broken) drafts
+
+-- what is seen after a write has failed
+pub failed_view : (v : BlobsView) (t now : TableView) (ds left : List Entry) (broken : Bool) → view_of t ds broken ≡ v → now ≡ with_flag now.broken t → left ≡ ds → view_of now left true ≡ with_failed now.broken v
+failed_view v t now ds left broken view now_is left_is =
+    same_view now (with_flag now.broken t) left ds true now_is left_is ∙ ap (with_failed now.broken) view
 
 -- what an entry's landing makes of the images, and what it leaves
 abbrev pub LandMoments : Option Past → Option Past → Option (List ℕ) → TableView → Entry → Type 0

@@ -1,5 +1,5 @@
 -- Blobs go: their pages are given back, one entry's after another's.
-use Rattle.std.proofs.Common.{inl, inr, ◌≡◌, ◌≢◌, ◌↔◌, ℕ, ◌+◌, ◌<◌, ◌≤◌, Bool, true, false, List, [], ◌∷◌, ◌++◌, length, get_or, remove, None, Vec, vec_capacity, All, refl, sym, ap, subst, ◌∙◌, arith, append_assoc, length-append, set, take, drop}
+use Rattle.std.proofs.Common.{inl, inr, ◌≡◌, ◌≢◌, ◌↔◌, ℕ, ◌+◌, ◌<◌, ◌≤◌, Bool, false, List, [], ◌∷◌, ◌++◌, length, get_or, remove, None, Vec, vec_capacity, All, refl, sym, ap, subst, ◌∙◌, arith, append_assoc, length-append, set, take, drop}
 use Rattle.std.specs.declared.alloc.Global.{Global}
 use Rattle.std.proofs.lemmas.Bool.{cases_Bool}
 use Rattle.std.proofs.lemmas.List.{drop_more, take-append-drop, take_more}
@@ -7,7 +7,6 @@ use Rattle.std.proofs.lemmas.List.Elements.{All-append, All-nil}
 use Rattle.std.proofs.lemmas.List.Sums.{sum_by-append, sum_by-cons}
 use Rattle.pkg_names.specs.declared.root.Root.{Root}
 use Rattle.image_layout.specs.declared.geometry.Geometry.{Geometry}
-use Rattle.image_layout.specs.Geometry.{IsWithinLimits}
 use Rattle.node_table.specs.declared.entry.Entry.{Entry}
 use Rattle.node_table.specs.Entries.{is_among, without, AreSound}
 use Rattle.node_table.specs.Table.{TableView, committed}
@@ -104,22 +103,10 @@ with_removed t now ds roots flags after spare noted broken are now_is room given
       limits = are.limits;
       sound = given.sound;
       pool = subst (λ (f : List Bool). IsPooled (without roots t.entries ++ ds) f t.geometry.data_pages) (sym after_is) given.pooled;
-      noted = omega (arith, are.noted, room);
+      noted = λ whole. omega (arith, are.noted whole, room);
       flag = are.flag;
     } in
     subst (λ (v : TableView). AreBlobs v ds after noted broken) (sym now_is) there
-
--- the fields after the disk has failed
-pub with_failed : (t now : TableView) (ds : List Entry) (flags : List Bool) (spare noted : Vec ℕ Global) (broken : Bool) → AreBlobs t ds flags spare broken → now.geometry ≡ t.geometry → now.entries ≡ t.entries → vec_capacity spare ≤ vec_capacity noted → AreBlobs now ds flags noted true
-with_failed t now ds flags spare noted broken are geometry entries room =
-    let all : t.entries ++ ds ≡ now.entries ++ ds = ap (λ (l : List Entry). l ++ ds) (sym entries) in
-    record {
-      limits = subst (λ (g : Geometry). IsWithinLimits g) (sym geometry) are.limits;
-      sound = subst (λ (g : Geometry). AreSound g (now.entries ++ ds)) (sym geometry) (subst (λ (l : List Entry). AreSound t.geometry l) all are.sound);
-      pool = subst (λ (g : Geometry). IsPooled (now.entries ++ ds) flags g.data_pages) (sym geometry) (subst (λ (l : List Entry). IsPooled l flags t.geometry.data_pages) all are.pool);
-      noted = omega (arith, are.noted, room, ap (λ (g : Geometry). g.data_pages) geometry);
-      flag = λ is. refl;
-    }
 
 gone-append : (roots : List Root) (xs ys : List Entry) → gone_pages roots (xs ++ ys) ≡ gone_pages roots xs ++ gone_pages roots ys
 gone-append roots [] ys = refl

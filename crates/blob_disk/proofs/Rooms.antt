@@ -1,8 +1,14 @@
 -- One draft more.
-use Rattle.std.proofs.Common.{◌≡◌, ◌≢◌, ℕ, ◌<◌, Bool, List, [], ◌∷◌, ◌++◌, length, Vec, All, sym, ap, subst, ◌∙◌, append_assoc}
+use Rattle.std.proofs.Common.{inl, inr, refl, false, Some, ◌≡◌, ◌≢◌, ℕ, ◌<◌, Bool, List, [], ◌∷◌, ◌++◌, length, Vec, All, sym, ap, subst, ◌∙◌, ◌+◌, arith, append_assoc, length-append}
 use Rattle.std.specs.declared.alloc.Global.{Global}
 use Rattle.node_table.specs.declared.entry.Entry.{Entry}
-use Rattle.node_table.specs.Entries.{IsEntry, AreSound, MayStandTogether}
+use Rattle.pkg_names.specs.declared.root.Root.{Root}
+use Rattle.pkg_names.specs.Root.{root_eq}
+use Rattle.pkg_names.proofs.Roots.{root_eq-true, root_eq-refl}
+use Rattle.std.proofs.lemmas.Bool.{cases_Bool}
+use Rattle.std.proofs.lemmas.List.{get_or-append-add}
+use Rattle.std.proofs.lemmas.List.Elements.{All-head, All-tail}
+use Rattle.node_table.specs.Entries.{IsEntry, AreSound, MayStandTogether, entry_of}
 use Rattle.node_table.specs.Table.{TableView}
 use Rattle.page_pool.specs.Flags.{IsFree}
 use Rattle.blob_disk.specs.Pooled.{IsPooled}
@@ -22,3 +28,22 @@ with_draft t drafts now entry flags after spare broken are room is free fresh po
       noted = are.noted;
       flag = are.flag;
     }
+
+-- the root of an entry is another
+other_root : (root : Root) (entry : Entry) → entry.root ≢ root → root_eq root entry.root ≡ false
+other_root root entry other =
+    elim (cases_Bool (root_eq root entry.root)) [
+      | inl same ↦ absurd (other (sym (root_eq-true root entry.root same)))
+      | inr not ↦ not
+    ]
+
+found_last : (entries : List Entry) (entry : Entry) → All (λ (other : Entry). other.root ≢ entry.root) entries → entry_of (entries ++ entry ∷ []) entry.root ≡ Some entry
+found_last [] entry others = rw (root_eq-refl entry.root) refl
+found_last (first ∷ entries) entry others =
+    let here : root_eq entry.root first.root ≡ false = other_root entry.root first (All-head (λ (other : Entry). other.root ≢ entry.root) first entries others) in
+    rw here (found_last entries entry (All-tail (λ (other : Entry). other.root ≢ entry.root) first entries others))
+
+-- the last draft is found where no other entry has its root
+pub last_found : (es ds : List Entry) (entry : Entry) → All (λ (other : Entry). other.root ≢ entry.root) (es ++ ds) → entry_of (ds ++ entry ∷ []) entry.root ≡ Some entry
+last_found es ds entry others =
+    found_last ds entry (λ k d below. subst (λ (other : Entry). other.root ≢ entry.root) (get_or-append-add es ds k d) (others (length es + k) d (omega (arith, length-append es ds, below))))

@@ -9,7 +9,10 @@ use Rattle.std.proofs.lemmas.List.Elements.{All-append, All-take, All-drop, All-
 use Rattle.std.proofs.lemmas.List.Quantifiers.{all_pairs_push, all_pairs_remove}
 use Rattle.image_layout.specs.declared.geometry.Geometry.{Geometry}
 use Rattle.node_table.specs.declared.entry.Entry.{Entry}
-use Rattle.node_table.specs.Entries.{IsEntry, AreSound, AreApart, MayStandTogether, IsChained}
+use Rattle.pkg_names.specs.declared.root.Root.{Root}
+use Rattle.pkg_names.specs.Root.{root_eq}
+use Rattle.node_table.specs.Entries.{IsEntry, AreSound, AreApart, MayStandTogether, IsChained, entry_of}
+use Rattle.blob_disk.specs.Chains.{draft_place}
 use Rattle.page_pool.specs.Flags.{IsTaken, IsFree}
 use Rattle.blob_disk.proofs.Pooling.{any_left, any_right, any_split, any_one}
 
@@ -129,3 +132,17 @@ entry_sound g xs ys entry sound =
 
 pub position_is : {X : Type 0} (p : X → Bool) (xs : List X) → position_or_len p xs < length xs → position p xs ≡ Some (position_or_len p xs)
 position_is p xs below = cond-true (ltb (position_or_len p xs) (length xs)) (Some (position_or_len p xs)) None (lt-ltb (position_or_len p xs) (length xs) below)
+
+-- where the entry of a root stands
+pub found_place : (root : Root) (entries : List Entry) → is_some (entry_of entries root) ≡ true → (draft_place root entries < length entries) × ((d : Entry) → entry_of entries root ≡ Some (get_or entries (draft_place root entries) d)) × (position (λ (entry : Entry). root_eq root entry.root) entries ≡ Some (draft_place root entries))
+found_place root entries some =
+    let test : Entry → Bool = λ entry. root_eq root entry.root in
+    let found = some_of (entry_of entries root) some in
+    let at = find_place test entries found.0 found.1 in
+    (at.0, λ d. found.1 ∙ ap (λ (e : Entry). Some e) (sym (at.1 d)), position_is test entries at.0)
+
+pub same_place : (a b : ℕ) → Some a ≡ Some b → a ≡ b
+same_place a b same = cc same
+
+pub same_entry : (a b : Entry) → Some a ≡ Some b → a ≡ b
+same_entry a b same = cc same

@@ -18,3 +18,7 @@ draft_place root drafts = position_or_len (λ (entry : Entry). root_eq root entr
 -- the drafts without that entry
 abbrev pub without_draft : Root → List Entry → List Entry
 without_draft root drafts = remove drafts (draft_place root drafts)
+
+-- the entry without its pages
+abbrev pub without_pages : Entry → Entry
+without_pages entry = record entry { pages = [] }

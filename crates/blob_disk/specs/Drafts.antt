@@ -1,5 +1,5 @@
 -- What contracts see of the blobs of a disk, and of their drafts.
-use Rattle.std.specs.Prelude.{Vec, vec_capacity, ◌≤◌, ℕ, ◌≡◌, ◌-◌, ◌==◌, nat_lt, Bool, true, List, [], ◌++◌, length, Option, Some, None, if◌then◌else◌}
+use Rattle.std.specs.Prelude.{Vec, vec_capacity, ◌≤◌, ℕ, ◌≡◌, ◌-◌, ◌==◌, nat_lt, Bool, true, false, List, [], ◌++◌, length, Option, Some, None, if◌then◌else◌}
 use Rattle.pkg_names.specs.declared.root.Root.{Root}
 use Rattle.disk_model.specs.Past.{Past}
 use Rattle.image_layout.specs.Geometry.{data_start}
@@ -28,13 +28,13 @@ abbrev pub all_entries : BlobsView → List Entry
 all_entries blobs = blobs.table.entries ++ blobs.drafts
 
 -- What the fields keep to. The entries and the drafts could stand in one table. Just their pages are taken, and
--- there is room to note all pages. Where the table is broken, the blobs are.
+-- there is room to note all pages until a write fails. Where the table is broken, the blobs are.
 pub record AreBlobs (t : TableView) (drafts : List Entry) (flags : List Bool)
     (spare : Vec ℕ Global) (broken : Bool) : Type 0 where
   pub limits : IsWithinLimits t.geometry
   pub sound : AreSound t.geometry (t.entries ++ drafts)
   pub pool : IsPooled (t.entries ++ drafts) flags t.geometry.data_pages
-  pub noted : t.geometry.data_pages ≤ vec_capacity spare
+  pub noted : broken ≡ false → t.geometry.data_pages ≤ vec_capacity spare
   pub flag : t.broken ≡ true → broken ≡ true
 
 -- how many data pages are neither the stock's nor a draft's
@@ -66,6 +66,15 @@ IsPutOn told blobs draft blob =
 -- what a call may have made of the flag
 abbrev pub with_broken : Bool → BlobsView → BlobsView
 with_broken broken blobs = record blobs { broken = broken }
+
+-- what a commit may have made of the table's flag
+abbrev pub with_flag : Bool → TableView → TableView
+with_flag flag t = record t { broken = flag }
+
+-- The blobs after a write of a commit, or one before it, has failed. The stock and the drafts have the entries
+-- that they had, and nothing can be written any more. The table has a flag of its own.
+abbrev pub with_failed : Bool → BlobsView → BlobsView
+with_failed flag blobs = record blobs { table = with_flag flag blobs.table; broken = true }
 
 -- the blobs after a draft of this root has ended without a blob
 abbrev pub without_draft_of : Root → BlobsView → BlobsView

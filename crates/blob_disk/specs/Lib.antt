@@ -5,3 +5,4 @@ pub mod Gone
 pub mod Drafts
 pub mod Ends
 pub mod Reading
+pub mod Writes

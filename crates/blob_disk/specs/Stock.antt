@@ -63,3 +63,9 @@ abbrev pub HasCause : Option Past → Geometry → LoadFault → Type 0
 HasCause told g Read = ⊤
 HasCause told g (Damaged found) = SomeImage told (IsDamagedAt g found)
 HasCause told g NoMemory = ⊤
+
+-- the fault is another than damage
+abbrev pub IsNotDamaged : LoadFault → Type 0
+IsNotDamaged Read = ⊤
+IsNotDamaged (Damaged found) = ⊥
+IsNotDamaged NoMemory = ⊤

@@ -12,7 +12,9 @@ ghost use Rattle.node_table.specs.Table.{HasTable, committed, IsTablePage, IsCom
 
 use crate::answers::{BlobFault, CheckFault, LandEnd, PutEnd, RemoveEnd, RoomFault, WriteEnd};
 use crate::checking::check_all;
-use crate::entries::{chain_of, entry_at, pages_for, take_draft};
+use crate::entries::{
+    chain_of, draft_at, entry_at, lend_chain, pages_for, return_chain, take_draft,
+};
 use crate::landing::{land_entry, remove_entries};
 use crate::marks::pool_of;
 use crate::pools::{give_pages, note_gone, note_pages, take_pages};
@@ -25,6 +27,7 @@ use page_pool::{Pool, taken_after};
 use pkg_names::{Bytes, Items, Root};
 use std::alloc::Global;
 use std::marker::Model;
+use std::mem;
 
 /// The blobs of a disk, which is lent to each call. The stock is durable; drafts are not.
 #[derive(Drop)]
@@ -55,8 +58,9 @@ impl Blobs {
     ghost use Rattle.blob_pages.specs.Written.{IsOn, AreWritten};
     ghost use Rattle.blob_disk.specs.Chains.{chain_of, without_draft};
     ghost use Rattle.blob_pages.specs.Draft.{have, IsDraftOf, HasNoFullPage};
-    ghost use Rattle.blob_disk.specs.Stock.{HasBlobs, HasCause, HaveOneStock, Stores};
-    ghost use Rattle.blob_disk.specs.Drafts.{all_entries, room_fault, with_broken, without_draft_of, with_landed, IsDraftIn, IsPageOf, IsPutOn};
+    ghost use Rattle.blob_disk.specs.Stock.{HasBlobs, HasCause, HaveOneStock, IsNotDamaged, Stores};
+    ghost use Rattle.blob_disk.specs.Drafts.{all_entries, room_fault, with_broken, with_failed, without_draft_of, with_landed, IsDraftIn, IsPageOf, IsPutOn};
+    ghost use Rattle.blob_disk.specs.Writes.{AddsOnePage};
     ghost use Rattle.blob_disk.specs.Ends.{is_broke, put_broke, EndsLand, IsRefused, IsLanded, IsBroke};
     ghost use Rattle.blob_disk.specs.Reading.{ReadsAll, Checks, GivesBytes, IsNotRotten};
 
@@ -93,6 +97,9 @@ impl Blobs {
         ensures stores { (contents : RootOf → List ℕ)
             → HaveOneStock (D.past disk.old) geometry.now contents
             → IfOk result (λ blobs. Stores (D.past disk.new) blobs.table contents) }
+        ensures undamaged { (contents : RootOf → List ℕ)
+            → HaveOneStock (D.past disk.old) geometry.now contents
+            → IfErr result (λ fault. IfSome (D.past disk.old) (λ _. IsNotDamaged fault)) }
         ensures past_stays { D.past disk.new ≡ D.past disk.old }
         ensures pages_stay { D.pages disk.new ≡ D.pages disk.old }
         ensures tie_stays { D.tie disk.new ≡ D.tie disk.old }
@@ -157,6 +164,7 @@ impl Blobs {
             → IfErr result (λ fault. fault ≡ RoomFault.NoMemory) }
         ensures draft { IfOk result (λ draft. IsDraftOf draft [] × (draft.root ≡ root)
             × (draft.len ≡ len) × (draft.pages ≡ 0) × HasNoFullPage draft) }
+        ensures own { IfOk result (IsDraftIn self.new) }
         ensures drafts { OnOk result ((pages : List ℕ) × (self.new ≡ record self.old {
           drafts = self.old.drafts ++ record { root = root; len = len; pages = pages } ∷ [];
         })) }
@@ -246,20 +254,18 @@ impl Blobs {
     }
 
     /// Ends a draft. Where the blob came whole it is stored: the open page if it has a byte, a sync, and
-    /// one commit of the table. Else its pages are free again.
+    /// one commit of the table. Where it didn't its pages are free again. Where the disk fails they stay taken,
+    /// since an image may have the blob.
     pub fn land<D: Disk>(&mut self, disk: &mut D, draft: Draft) -> LandEnd
         requires unbroken { self.old.broken ≡ false }
         requires room { total_pages self.old.table.geometry ≤ D.pages disk.old }
         requires own { IsDraftIn self.old draft }
         requires open { HasNoFullPage draft }
         ensures ends { (blob : List ℕ) → IsDraftOf draft blob → EndsLand draft blob result }
-        ensures drafts { self.new.drafts ≡ without_draft draft.root self.old.drafts }
         ensures refused { IsRefused result
             → (self.new ≡ without_draft_of draft.root self.old) × (disk.new ≡ disk.old) }
         ensures landed { IsLanded result → self.new ≡ with_landed draft.root self.old }
-        ensures broke { IsBroke result → (self.new.broken ≡ true)
-            × (self.new.table.geometry ≡ self.old.table.geometry)
-            × (self.new.table.entries ≡ self.old.table.entries) }
+        ensures broke { IsBroke result → self.new ≡ with_failed self.new.table.broken self.old }
         ensures each_moment { (blob : List ℕ) (contents : RootOf → List ℕ) → IsDraftOf draft blob
             → contents draft.root ≡ blob → IsPutOn (D.past disk.old) self.old draft blob
             → Stores (D.past disk.old) self.old.table contents
@@ -271,6 +277,8 @@ impl Blobs {
             → IsLanded result → Stores (D.past disk.new) self.new.table contents }
         ensures only { WritesOnly (D.past disk.old) (D.past disk.new)
             (λ n. IsPageOf self.old draft n ⊎ IsCommitPage self.old.table n) }
+        ensures few { IsLanded result
+            → AddsOnePage (data_start self.old.table.geometry) (D.past disk.old) (D.past disk.new) }
         ensures pages_stay { D.pages disk.new ≡ D.pages disk.old }
         ensures tie_stays { D.tie disk.new ≡ D.tie disk.old }
         ensures reads_stay { D.reads disk.new ≡ D.reads disk.old }
@@ -295,18 +303,15 @@ impl Blobs {
         }
     }
 
-    /// Takes blobs out of the stock, by one commit. Only then are their pages free. No roots make no disk
-    /// call.
+    /// Takes the blobs of these roots out of the stock, by one commit. Only then are their pages free. Roots
+    /// that have no blob are passed over; no roots make no disk call.
     pub fn remove<D: Disk>(&mut self, disk: &mut D, roots: &[Root]) -> RemoveEnd
         requires unbroken { self.old.broken ≡ false }
         requires room { total_pages self.old.table.geometry ≤ D.pages disk.old }
-        requires stored { All (λ root. IsSome (entry_of self.old.table.entries root)) roots.now }
-        requires once { AllPairs (λ a b. a ≢ b) roots.now }
         ensures none { roots.now ≡ [] → (result ≡ RemoveEnd.Removed) × (self.new ≡ self.old) × (disk.new ≡ disk.old) }
         ensures removed { result ≡ RemoveEnd.Removed → (roots.now ≡ [])
             ⊎ (self.new ≡ record self.old { table = committed self.old.table None roots.now }) }
-        ensures broke { result ≡ RemoveEnd.Broke → (self.new.broken ≡ true)
-            × (self.new.table.entries ≡ self.old.table.entries) × (self.new.drafts ≡ self.old.drafts) }
+        ensures broke { result ≡ RemoveEnd.Broke → self.new ≡ with_failed true self.old }
         ensures each_moment { (contents : RootOf → List ℕ) → Stores (D.past disk.old) self.old.table contents
             → AtEach (D.past disk.old) (D.past disk.new) (λ image. HasBlobs self.old.table contents image
             ⊎ HasBlobs (committed self.old.table None roots.now) contents image) }
@@ -348,10 +353,7 @@ impl Blobs {
         requires own { (entry : EntryOf) × (entry_of self.old.drafts root.now ≡ Some entry)
             × (IsSome page.now → 0 < entry.len % 4096) }
         ensures landed { OnOk result (self.new ≡ with_landed root.now self.old) }
-        ensures failed { OnErr result ((self.new.broken ≡ true)
-            × (self.new.table.geometry ≡ self.old.table.geometry)
-            × (self.new.table.entries ≡ self.old.table.entries)) }
-        ensures drafts { self.new.drafts ≡ without_draft root.now self.old.drafts }
+        ensures failed { OnErr result (self.new ≡ with_failed self.new.table.broken self.old) }
         ensures each_moment { (entry : EntryOf) (blob : List ℕ) (contents : RootOf → List ℕ)
             → entry_of self.old.drafts root.now ≡ Some entry
             → length blob ≡ entry.len → page.now ≡ open_page blob → merkle_root blob ≡ entry.root
@@ -370,18 +372,27 @@ impl Blobs {
         ensures only { WritesOnly (D.past disk.old) (D.past disk.new)
             (λ n. IsOn (data_start self.old.table.geometry) (chain_of self.old.drafts root.now) n
             ⊎ IsCommitPage self.old.table n) }
+        ensures few { OnOk result
+            (AddsOnePage (data_start self.old.table.geometry) (D.past disk.old) (D.past disk.new)) }
         ensures pages_stay { D.pages disk.new ≡ D.pages disk.old }
         ensures tie_stays { D.tie disk.new ≡ D.tie disk.old }
         ensures reads_stay { D.reads disk.new ≡ D.reads disk.old }
         ensures faults_never_fall { D.faults disk.old ≤ D.faults disk.new }
         ensures cause { OnErr result (Rose (D.faults disk.old) (D.faults disk.new)) }
     {
-        let entry = take_draft(&mut self.drafts, root);
+        let alloc = *self.spare.allocator();
+        let place = draft_at(&self.drafts, root);
+        let entry = lend_chain(alloc, &mut self.drafts, place);
         note_pages(&mut self.spare, entry.pages.as_slice());
         match land_entry(&mut self.table, disk, entry, page) {
-            Ok(()) => Ok(()),
+            Ok(()) => {
+                let _draft = self.drafts.remove(place);
+                Ok(())
+            }
             Err(failed) => {
-                give_pages(&mut self.pool, &self.spare);
+                // an image may have the blob, so its pages stay taken
+                let pages = mem::replace(&mut self.spare, Vec::new(alloc));
+                return_chain(&mut self.drafts, place, pages);
                 self.broken = true;
                 Err(failed)
             }
@@ -403,6 +414,28 @@ impl Blobs {
         ensures sound { AreSound self.now.table.geometry self.now.table.entries }
     {
         self.table.entries()
+    }
+
+    /// The drafts with their pages. No page is in two chains of the stock and the drafts.
+    pub fn drafts(&self) -> &[Entry]
+        ensures list { result.now ≡ self.now.drafts }
+        ensures sound { AreSound self.now.table.geometry (all_entries self.now) }
+    {
+        &self.drafts
+    }
+
+    pub fn geometry(&self) -> &Geometry
+        ensures geometry { result.now ≡ self.now.table.geometry }
+        ensures limits { IsWithinLimits self.now.table.geometry }
+    {
+        self.table.geometry()
+    }
+
+    /// Whether a call has answered `Broke`, so that nothing can be written any more.
+    pub fn is_broken(&self) -> bool
+        ensures { result ≡ self.now.broken }
+    {
+        self.broken
     }
 
     /// Reads a whole blob of the stock.

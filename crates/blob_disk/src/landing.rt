@@ -1,6 +1,6 @@
 //! The table changes: a blob comes, or blobs go.
 
-ghost use Rattle.std.specs.Prelude.{◌≡◌, ◌⊎◌, ℕ, ◌+◌, ◌/◌, ◌<◌, ◌≤◌, false, List, [], length, Some, None, IsSome, OnOk, OnErr};
+ghost use Rattle.std.specs.Prelude.{◌≡◌, ◌⊎◌, ℕ, ◌+◌, ◌/◌, ◌<◌, ◌≤◌, true, false, List, [], length, Some, None, IsSome, OnOk, OnErr};
 ghost use Rattle.pkg_names.specs.declared.root.Root.{Root as RootOf};
 ghost use Rattle.pkg_merkle.specs.Merkle.{merkle_root};
 ghost use Rattle.disk_model.specs.Past.{Rose};
@@ -11,7 +11,9 @@ ghost use Rattle.std.specs.Option.{ForSome};
 ghost use Rattle.node_table.specs.Table.{Fits, Has, IsCommitPage, committed};
 ghost use Rattle.blob_pages.specs.Pages.{open_page};
 ghost use Rattle.blob_pages.specs.Written.{IsOn, AreWritten};
+ghost use Rattle.blob_disk.specs.Drafts.{with_flag};
 ghost use Rattle.blob_disk.specs.Stock.{HasBlobs, Stores};
+ghost use Rattle.blob_disk.specs.Writes.{AddsOnePage};
 
 use blob_pages::{PAGE_SIZE, settle_blob};
 use disk_model::{Disk, DiskFailed};
@@ -33,8 +35,7 @@ pub(crate) fn land_entry<D: Disk>(
     requires begun { IsSome page.now → entry.len / PAGE_SIZE < length entry.pages }
     requires node { length table.old.entries < table.old.geometry.blobs }
     ensures landed { OnOk result (table.new ≡ committed table.old (Some entry) []) }
-    ensures failed { OnErr result ((table.new.geometry ≡ table.old.geometry)
-        × (table.new.entries ≡ table.old.entries)) }
+    ensures failed { OnErr result (table.new ≡ with_flag table.new.broken table.old) }
     ensures each_moment { (blob : List ℕ) (contents : RootOf → List ℕ) → length blob ≡ entry.len
         → page.now ≡ open_page blob → merkle_root blob ≡ entry.root → contents entry.root ≡ blob
         → AreWritten (D.past disk.old) (data_start table.old.geometry) entry.pages blob (entry.len / PAGE_SIZE)
@@ -48,6 +49,8 @@ pub(crate) fn land_entry<D: Disk>(
         → Stores (D.past disk.new) table.new contents) }
     ensures only { WritesOnly (D.past disk.old) (D.past disk.new)
         (λ n. IsOn (data_start table.old.geometry) entry.pages n ⊎ IsCommitPage table.old n) }
+    ensures few { OnOk result
+        (AddsOnePage (data_start table.old.geometry) (D.past disk.old) (D.past disk.new)) }
     ensures pages_stay { D.pages disk.new ≡ D.pages disk.old }
     ensures tie_stays { D.tie disk.new ≡ D.tie disk.old }
     ensures reads_stay { D.reads disk.new ≡ D.reads disk.old }
@@ -68,8 +71,7 @@ pub(crate) fn remove_entries<D: Disk>(
     requires unbroken { table.old.broken ≡ false }
     requires room { total_pages table.old.geometry ≤ D.pages disk.old }
     ensures removed { OnOk result (table.new ≡ committed table.old None roots.now) }
-    ensures failed { OnErr result ((table.new.geometry ≡ table.old.geometry)
-        × (table.new.entries ≡ table.old.entries)) }
+    ensures failed { OnErr result (table.new ≡ with_flag true table.old) }
     ensures each_moment { (contents : RootOf → List ℕ) → Stores (D.past disk.old) table.old contents
         → AtEach (D.past disk.old) (D.past disk.new) (λ image. HasBlobs table.old contents image
         ⊎ HasBlobs (committed table.old None roots.now) contents image) }
@@ -98,8 +100,7 @@ fn commit<D: Disk>(
     requires added { ForSome add (MayCome table.old.geometry table.old.entries) }
     requires node { length (committed table.old add gone.now).entries ≤ table.old.geometry.blobs }
     ensures done { OnOk result (table.new ≡ committed table.old add gone.now) }
-    ensures failed { OnErr result ((table.new.geometry ≡ table.old.geometry)
-        × (table.new.entries ≡ table.old.entries)) }
+    ensures failed { OnErr result (table.new ≡ with_flag true table.old) }
     ensures each_moment { Fits (D.past disk.old) table.old
         → AtEach (D.past disk.old) (D.past disk.new) (λ image.
         Has table.old image ⊎ Has (committed table.old add gone.now) image) }

@@ -1,4 +1,4 @@
-use Rattle.std.proofs.Common.{◌≡◌, ◌⊎◌, ℕ, ◌/◌, inl, inr, sym, subst, ap, ◌∙◌, arith}
+use Rattle.std.proofs.Common.{◌≡◌, ◌⊎◌, ℕ, ◌/◌, true, inl, inr, sym, subst, ap, ◌∙◌, arith}
 use Rattle.disk_model.specs.Images.{WritesOnly}
 use Rattle.disk_model.proofs.Regions.{writes_then, writes_wider}
 use Rattle.image_layout.specs.Geometry.{data_start}
@@ -8,7 +8,8 @@ use Rattle.blob_pages.specs.Pages.{page_count}
 use Rattle.blob_pages.specs.Written.{IsOn, AreSettled}
 use Rattle.blob_disk.specs.Stock.{Stores}
 use Rattle.blob_disk.proofs.Placing.{only_as}
-use Rattle.blob_disk.proofs.Committing.{come_behind, length-with_added, settled_as, fits_of, both_ok, at_mid, stores_mid, at_new, stores_new}
+use Rattle.blob_disk.proofs.Committing.{come_behind, length-with_added, settled_as, fits_of, both_ok, any_ok, mapped_err, own_flag, commit_before_data, at_mid, stores_mid, at_new, stores_new}
+use Rattle.blob_disk.proofs.FewWrites.{few_writes}
 use Rattle.blob_disk.proofs.landing.land_entry.Goals as goal
 
 pub returns-in_err-settle_blob-clause-each_moment : goal.returns-in_err-settle_blob-clause-each_moment
@@ -78,3 +79,13 @@ returns-clause-only g c =
     writes_then wide (past c.args.disk.now) (past c.settle_blob.new.disk) (past c.commit.new.disk)
     (writes_wider (IsOn (data_start t.geometry) c.args.entry.pages) wide (past c.args.disk.now) (past c.settle_blob.new.disk) (λ n on. inl on) pages)
     (writes_wider (IsCommitPage t) wide (past c.settle_blob.new.disk) (past c.commit.new.disk) (λ n commit. inr commit) c.commit.ensures.only)
+
+pub returns-clause-failed : goal.returns-clause-failed
+returns-clause-failed g c =
+    mapped_err c.commit.result (λ is. own_flag c.args.table.now c.commit.new.table true is) c.commit.ensures.failed
+
+pub returns-clause-few : goal.returns-clause-few
+returns-clause-few g c =
+    let past = g.D.Disk.past in
+    let t : TableView = c.args.table.now in
+    any_ok c.commit.result (few_writes (data_start t.geometry) c.data_start-start.result c.as_slice.result.now c.args.entry.len c.args.page.now (IsCommitPage t) (past c.args.disk.now) (past c.settle_blob.new.disk) (past c.commit.new.disk) (commit_before_data t) c.in_ok-settle_blob.ensures.acts c.commit.ensures.only)

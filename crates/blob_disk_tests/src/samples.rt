@@ -1,0 +1,102 @@
+//! Blobs and disks of the tests.
+
+use crate::blobs::{attach, format, land, put, read_all, room};
+use blob_disk::{Blobs, LandEnd, PutEnd, RoomFault};
+use disk_model::{Disk, MemDisk};
+use image_layout::Geometry;
+use pkg_merkle::root_of;
+use pkg_names::Root;
+use std::alloc::{AllocError, Global};
+use std::test::Fail;
+
+/// The smallest geometry: the selector is page 2, the copies of the table are pages 3, 4 and 5, 6, and data
+/// begins at page 61.
+pub const SMALL: Geometry = Geometry {
+    blobs: 64,
+    data_pages: 1024,
+    slot_pages: 1,
+};
+
+pub const DATA: u32 = 61;
+
+/// A blob whose bytes repeat only after many pages.
+pub fn sample(alloc: Global, count: u32) -> Result<Vec<u8>, AllocError> {
+    let mut bytes = Vec::new(alloc);
+    for i in 0..count {
+        bytes.push(((7 * (i % 251) + 3) % 251) as u8)?;
+    }
+    Ok(bytes)
+}
+
+/// A disk with an empty stock, which took six acts.
+pub fn empty(alloc: Global) -> Result<MemDisk, Fail> {
+    let mut disk = MemDisk::make(alloc, 1085, Vec::new(alloc))?;
+    if format(&mut disk, &SMALL) {
+        Ok(disk)
+    } else {
+        Err(Fail::new("no stock"))
+    }
+}
+
+/// The blobs of a disk that has some.
+pub fn attached<D: Disk>(alloc: Global, disk: &mut D) -> Result<Blobs, Fail> {
+    match attach(alloc, disk, &SMALL) {
+        Some(Ok(blobs)) => Ok(blobs),
+        _ => Err(Fail::new("not attached")),
+    }
+}
+
+/// How it ended that a blob came in one piece.
+#[derive(Clone, Copy, Debug, PartialEq, Eq)]
+pub enum Came {
+    Landed,
+    PutBroke,
+    LandBroke,
+}
+
+/// Stores a blob of one piece.
+pub fn store<D: Disk>(
+    alloc: Global,
+    blobs: &mut Blobs,
+    disk: &mut D,
+    bytes: &[u8],
+) -> Result<Came, Fail> {
+    let Some(Ok(mut draft)) = room(alloc, blobs, root_of(bytes), bytes.len() as u64) else {
+        return Err(Fail::new("no room"));
+    };
+    match put(blobs, disk, &mut draft, bytes) {
+        Some(PutEnd::Taken) => {}
+        Some(PutEnd::Broke) => return Ok(Came::PutBroke),
+        _ => return Err(Fail::new("not put")),
+    }
+    match land(blobs, disk, draft) {
+        Some(LandEnd::Landed(Some(kept))) if kept.as_slice() == bytes => Ok(Came::Landed),
+        Some(LandEnd::Broke) => Ok(Came::LandBroke),
+        _ => Err(Fail::new("not landed")),
+    }
+}
+
+/// Whether just these blobs are stored, in this order, and are read.
+pub fn are_stored<D: Disk>(alloc: Global, blobs: &Blobs, disk: &mut D, wanted: &[&[u8]]) -> bool {
+    if blobs.entries().len() != wanted.len() {
+        return false;
+    }
+    for (entry, bytes) in blobs.entries().iter().zip(wanted.iter()) {
+        if entry.root != root_of(bytes) {
+            return false;
+        }
+        match read_all(alloc, blobs, disk, &entry.root, 65_536) {
+            Some(Ok(read)) if read.as_slice() == *bytes => {}
+            _ => return false,
+        }
+    }
+    true
+}
+
+/// How many data pages are free, as the refusal of a blob of all 8192 pages tells.
+pub fn free(alloc: Global, blobs: &mut Blobs) -> Option<u32> {
+    match room(alloc, blobs, Root([255; 32]), 33_554_432) {
+        Some(Err(RoomFault::NoSpace { need: 8192, free })) => Some(free),
+        _ => None,
+    }
+}
