@@ -12,6 +12,7 @@ mod writing;
 
 pub use fault::UrlFault;
 pub use laws::{limits, texts_are_cut_so, texts_spell_a_url_or_have_a_fault};
+pub use parts::is_host;
 pub use reading::read_url;
 pub use url::{HOST_LIMIT, Url};
 pub use writing::write_url;

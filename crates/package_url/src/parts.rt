@@ -46,7 +46,8 @@ pub(crate) fn host_of(alloc: Global, text: &[u8]) -> Result<Texts, UrlFault>
     }
 }
 
-fn is_host(text: &[u8]) -> bool
+/// Whether the text is a host.
+pub fn is_host(text: &[u8]) -> bool
     ensures { IsTrue result ↔ IsHost text.now }
 {
     !text.is_empty() && text.len() <= HOST_LIMIT && text.iter().all(|c| is_host_byte(*c))

@@ -1,4 +1,4 @@
-use crate::{Url, UrlFault, read_url, write_url};
+use crate::{Url, UrlFault, is_host, read_url, write_url};
 use pkg_names::read_root;
 use std::alloc::Global;
 use std::test::Fail;
@@ -142,6 +142,22 @@ fn long_hosts(rt: HostRuntime) -> Result<(), Fail> {
         }
         text.extend_from_slice(b"/b")?;
         assert_eq!(rt; fault_of(rt.alloc(), &text), fault, "{len} bytes");
+    }
+    Ok(())
+}
+
+#[test]
+fn hosts(rt: HostRuntime) -> Result<(), Fail> {
+    let table: [(&[u8], bool); 6] = [
+        (b"fuchsia.com", true),
+        (b"a-1", true),
+        (b"", false),
+        (b"A", false),
+        (b"a/b", false),
+        (b"a_b", false),
+    ];
+    for (text, expected) in table {
+        assert_eq!(rt; is_host(text), expected, "{text:?}");
     }
     Ok(())
 }

@@ -39,7 +39,7 @@ use Rattle.store_model.proofs.LanesMarks.{marked_ticket}
 
 -- ---- the stock
 
-stored_more : (stock : List Stored) (blob : Stored) (root : Root) → is_stored (stock ++ blob ∷ []) root ≡ (is_stored stock root || root_eq blob.root root)
+pub stored_more : (stock : List Stored) (blob : Stored) (root : Root) → is_stored (stock ++ blob ∷ []) root ≡ (is_stored stock root || root_eq blob.root root)
 stored_more [] blob root = elim (cases_Bool (root_eq blob.root root)) [ inl holds ↦ rw holds refl | inr lacks ↦ rw lacks refl ]
 stored_more (b ∷ stock) blob root = elim (cases_Bool (root_eq b.root root)) [ inl holds ↦ rw holds refl | inr lacks ↦ rw lacks (stored_more stock blob root) ]
 
@@ -342,7 +342,7 @@ made_then s number e ticket root due is =
 
 -- ---- the stock
 
-claimed_missing : (s : State) (root : Root) (P : ClaimEntry → Type 0) (found : Option ClaimEntry) → claim_of s.claims root ≡ found → IsSomeAnd found P → AreClaims s.claims s.stock → is_stored s.stock root ≡ false
+pub claimed_missing : (s : State) (root : Root) (P : ClaimEntry → Type 0) (found : Option ClaimEntry) → claim_of s.claims root ≡ found → IsSomeAnd found P → AreClaims s.claims s.stock → is_stored s.stock root ≡ false
 claimed_missing s root P None is due once = absurd due
 claimed_missing s root P (Some claim) is due once =
     let own = root_eq-true claim.root root (found_passes (λ (c : ClaimEntry). root_eq c.root root) s.claims claim is) in

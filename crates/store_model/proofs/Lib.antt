@@ -35,3 +35,4 @@ pub mod SoundFiles
 pub mod Sound
 pub mod SameBooks
 pub mod SameSteps
+mod Landing

@@ -1,8 +1,15 @@
 //! The laws of the model, each the contract of a function that does nothing.
 
-ghost use Rattle.std.specs.Prelude.{◌≡◌, ℕ, ◌+◌, ◌++◌, List, length};
+ghost use Rattle.std.specs.Prelude.{◌≡◌, ℕ, ◌+◌, ◌≤◌, [], ◌∷◌, ◌++◌, true, false, List, length, Some, None, IsSomeAnd};
+ghost use Rattle.package_book.specs.declared.book.TheConstants.{META_LIMIT};
+ghost use Rattle.package_book.specs.Books.{book_at};
+ghost use Rattle.package_book.specs.Books.Meta.{Read};
+ghost use Rattle.pkg_merkle.specs.Merkle.{merkle_root};
 ghost use Rattle.store_model.specs.declared.events.Event.{Event as EventOf};
-ghost use Rattle.store_model.specs.State.{State};
+ghost use Rattle.store_model.specs.declared.events.LookedAt.{LookedAt as LookedAtOf};
+ghost use Rattle.store_model.specs.declared.events.Act.TheVariants as acts;
+ghost use Rattle.store_model.specs.State.{State, claim_of, has_root, protected_in};
+ghost use Rattle.store_model.specs.Acts.Put.{IsRoomOf};
 ghost use Rattle.store_model.specs.Step.{IsDue, step};
 ghost use Rattle.store_model.specs.History.{Origin, IsLegal, after, GoesOn};
 ghost use Rattle.store_model.specs.Footprints.{footprint, KeepsRest};
@@ -38,4 +45,24 @@ pub fn books_are_looked_up()
     ensures after { (s t : State) (number : ℕ) (e : EventOf) → Mirrors s t
         → Mirrors (step s number e) (step t number e) }
     ensures back { (s t : State) → Mirrors s t → Mirrors t s }
+{}
+
+/// A landing tells the books. After a legal history in which no write failed, a claimed blob that has room
+/// of its length lands with its bytes. Where it is a protected package that the books don't know, they know
+/// it by these bytes from then on.
+pub fn landings_tell_the_books()
+    ensures due { (origin : Origin) (history : List EventOf) (lane : ℕ) (blob : LookedAtOf) → IsLegal origin history
+        → let s = after origin history in s.booted ≡ true → s.broken ≡ None → merkle_root blob.bytes ≡ blob.root
+        → length blob.bytes ≤ META_LIMIT → IsSomeAnd (claim_of s.claims blob.root) (IsRoomOf lane (length blob.bytes))
+        → IsDue s (length history + 1) (record {
+          lane = lane;
+          act = acts.Land blob.root (length blob.bytes) None (blob ∷ []);
+          broke = false;
+        }) }
+    ensures known { (s : State) (number lane : ℕ) (blob : LookedAtOf) → has_root (protected_in s) blob.root ≡ true
+        → book_at s.books blob.root ≡ None → book_at (step s number (record {
+          lane = lane;
+          act = acts.Land blob.root (length blob.bytes) None (blob ∷ []);
+          broke = false;
+        })).books blob.root ≡ Some (Read blob.bytes) }
 {}

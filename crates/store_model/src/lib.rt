@@ -36,7 +36,9 @@ pub use lane_laws::{
     collections_spare_what_is_held, lanes_leave_each_other_alone, lanes_wait_where_it_is_quiet,
     marks_come_from_ends, what_lasts_changes_at_few_acts, whole_packages_are_opened,
 };
-pub use laws::{books_are_looked_up, each_act_keeps_the_rest, histories_go_on, limits};
+pub use laws::{
+    books_are_looked_up, each_act_keeps_the_rest, histories_go_on, landings_tell_the_books, limits,
+};
 pub use replies::{
     ActivateReply, BeginReply, CheckReply, Claim, CloseReply, CollectReply, CommitReply, CopyReply,
     Dir, LandReply, OpenReply, PutReply, ReadReply, RejectReply, RetainReply, RoomReply, SealReply,

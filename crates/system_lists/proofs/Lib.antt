@@ -3,3 +3,4 @@ pub mod Arrays
 mod StaticLines
 mod Law
 mod Values
+pub mod Documents

@@ -1,16 +1,16 @@
 -- A text is read as images exactly where its partitions bring them, and refused exactly by its first fault.
-use Rattle.std.proofs.Common.{◌≡◌, ℕ, List, [], Bool, true, false, cond, Option, Some, None, Result, Ok, Err, inl, inr, refl, ap, subst, ◌∙◌}
+use Rattle.std.proofs.Common.{◌≡◌, ℕ, List, [], Option, Some, None, Result, Ok, Err, inl, inr, refl, ap, subst, ◌∙◌}
 use Rattle.std.specs.Prelude.{◌↔◌}
-use Rattle.serde_json.specs.Find.{as_object}
-use Rattle.serde_json.specs.Data.{Data, Items, Members}
+use Rattle.serde_json.specs.Data.{Data, Items}
 use Rattle.system_lists.specs.declared.document.DocumentFault.{DocumentFault}
 use Rattle.system_lists.specs.declared.document.DocumentFault.TheVariants as document
 use Rattle.system_lists.specs.declared.list.ListFault.{ListFault}
 use Rattle.system_lists.specs.declared.list.ListFault.TheVariants as list
 use Rattle.system_lists.specs.declared.fault.ManifestFault.{ManifestFault}
 use Rattle.system_lists.specs.declared.fault.ManifestFault.TheVariants.{Json, Version, Entry, NoSystem, Twice, NoZbi, Missing, TooLong, NoMemory}
-use Rattle.system_lists.specs.Document.{value_in, fault_of, judged, document_of, document_in, entries}
+use Rattle.system_lists.specs.Document.{document_in, entries}
 use Rattle.system_lists.specs.Entries.{listed}
+use Rattle.system_lists.proofs.Documents.{never_starved}
 use Rattle.system_lists.proofs.Listing.{made, refused}
 use Rattle.update_manifest.specs.declared.image.ImageRef.{ImageRef}
 use Rattle.update_manifest.specs.declared.image.Images.{Images}
@@ -19,26 +19,6 @@ use Rattle.update_manifest.specs.declared.partition.PartitionSlot.TheVariants.{F
 use Rattle.update_manifest.specs.declared.partition.PartitionType.TheVariants.{Zbi, Vbmeta}
 use Rattle.update_manifest.specs.Partition.{partition_in, is_same}
 use Rattle.update_manifest.specs.Images.{image_at, images_with, images_of, partition_fault, images_listed, images_at, partitions_at, images_document, images_in, HasArray, Brings, HasBadEntry, HasFirstFault}
-
--- ---- what is never a first fault
-
-either_other : (test : Bool) → cond test None (Some document.Version) ≡ Some document.NoMemory → ⊥
-either_other true e = cc
-either_other false e = cc
-
-fault_other : (value : Data) (members : Option Members) → fault_of value members ≡ Some document.NoMemory → ⊥
-fault_other value None e = cc
-fault_other value (Some found) e = either_other _ e
-
-judged_other : (value : Data) (fault : Option DocumentFault) → (fault ≡ Some document.NoMemory → ⊥) → judged value fault ≡ Err document.NoMemory → ⊥
-judged_other value None other e = cc
-judged_other value (Some fault) other e =
-    let same : fault ≡ document.NoMemory = cc in
-    other (ap (λ (f : DocumentFault). Some f) same)
-
-document_other : (value : Option Data) → document_of value ≡ Err document.NoMemory → ⊥
-document_other None e = cc
-document_other (Some value) e = judged_other value (fault_of value (as_object value)) (fault_other value (as_object value)) e
 
 -- ---- images
 
@@ -125,7 +105,7 @@ document_fault text fault (Err document.Json) is e =
 document_fault text fault (Err document.Version) is e =
     let same : Version ≡ fault = cc in
     subst (HasFirstFault text) same is
-document_fault text fault (Err document.NoMemory) is e = absurd (document_other (value_in text) is)
+document_fault text fault (Err document.NoMemory) is e = absurd (never_starved text is)
 
 bad_entry : (text : List ℕ) (why : ListFault) → HasBadEntry text why → images_in text ≡ Err (partition_fault why)
 bad_entry text why is = leads text is.0 (Err why) is.1 ((refused is_same (entries partition_in is.0) why).1 is.2)
