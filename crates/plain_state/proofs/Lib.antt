@@ -1,0 +1,3 @@
+pub mod Stock
+pub mod Named
+pub mod Joined
