@@ -1,1 +1,3 @@
 pub mod Views
+pub mod Contents
+pub mod Learning
