@@ -34,7 +34,7 @@ use Rattle.store_model.specs.Acts.Seal.{next_seal}
 use Rattle.store_model.specs.Acts.LeftStage.{next_left_stage}
 use Rattle.store_model.specs.Acts.Commit.{next_commit}
 use Rattle.store_model.proofs.LanesLasting.{left_len}
-use Rattle.plain_state.specs.Learning.{IsReady, IsSettled, Forgets, listed}
+use Rattle.plain_state.specs.Learning.{IsReady, IsSettled, Forgets, listed, replaced_by}
 use Rattle.plain_state.proofs.Protected.{by_part, IsInNone, in_none, from_base, from_cached, from_active, from_retained, from_arriving, from_dirs, arriving_roots, last_has, more_has, own_has, kept_has, lost_is_found, replaced_is_found, with_root_has}
 use Rattle.plain_state.proofs.Settled.{IsThere, IsQuiet, settles_quietly, settles_still}
 
@@ -113,11 +113,6 @@ pub fails : (t : State) (number lane ticket : ℕ) (cause : Cause) (new : State)
 fails t number lane ticket cause new h forgets = gives_up t ticket new h forgets
 
 -- ---- a package is opened
-
--- the root that is active under the package's path until it is opened
-abbrev pub replaced_by : State → Option Arrival → List Root
-replaced_by t None = []
-replaced_by t (Some arrival) = cond (is_some (root_at t.base arrival.path)) [] (listed (root_at t.active arrival.path))
 
 -- the package of a ticket is among those that arrive
 found_has : (arriving : List Arrival) (ticket : ℕ) (arrival : Arrival) (root : Root) → arrival_of arriving ticket ≡ Some arrival → root_eq arrival.root root ≡ true → has_root (map (λ (x : Arrival). x.root) arriving) root ≡ true

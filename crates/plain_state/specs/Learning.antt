@@ -1,10 +1,11 @@
 -- What the books of a state learn and forget, while all else of it stays; and when an event has settled them.
-use Rattle.std.specs.Prelude.{◌≡◌, ◌≢◌, ℕ, ◌&&◌, not, nat_lt, List, [], ◌∷◌, Option, Some, None, if◌then◌else◌}
+use Rattle.std.specs.Prelude.{◌≡◌, ◌≢◌, ℕ, ◌&&◌, not, nat_lt, List, [], ◌∷◌, Option, Some, None, is_some, if◌then◌else◌}
 use Rattle.std.specs.List.{AllPairs}
 use Rattle.std.specs.Option.{option_map}
 use Rattle.open_tracker.specs.declared.dirs.DirEntry.{DirEntry}
 use Rattle.pkg_names.specs.declared.root.Root.{Root}
 use Rattle.pkg_names.specs.Root.{root_eq}
+use Rattle.package_indexes.specs.Indexes.{root_at}
 use Rattle.package_book.specs.declared.book.TheConstants.{META_LIMIT}
 use Rattle.package_book.specs.Books.{Meta, Sets, book_at}
 use Rattle.package_book.specs.Books.Meta.{Read, Long}
@@ -82,3 +83,8 @@ pub record IsReady (s : State) : Type 0 where
   pub books : KnowsExactly s.books (protected_in s) s.stock
   pub tickets : AllPairs (λ (a b : Arrival). a.ticket ≢ b.ticket) s.arriving
   pub dirs : AllPairs (λ (a b : DirEntry). a.number ≢ b.number) s.dirs
+
+-- the root that is active under the package's path until it is opened
+abbrev pub replaced_by : State → Option Arrival → List Root
+replaced_by s None = []
+replaced_by s (Some arrival) = if is_some (root_at s.base arrival.path) then [] else listed (root_at s.active arrival.path)

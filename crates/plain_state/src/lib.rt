@@ -5,6 +5,7 @@ mod blobs;
 mod books;
 mod changes;
 mod contents;
+mod laws;
 mod packages;
 mod settling;
 mod state;
@@ -12,4 +13,7 @@ mod turns;
 
 pub use blobs::Blob;
 pub use contents::Contents;
+pub use laws::{
+    collections_are_settled, openings_are_settled, still_acts_are_settled, stores_are_ready,
+};
 pub use state::{Standing, State};

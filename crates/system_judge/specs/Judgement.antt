@@ -3,15 +3,15 @@ use Rattle.std.specs.Prelude.{◌≡◌, ◌&&◌, not, Bool, List, [], ◌∷�
 use Rattle.pkg_names.specs.declared.pinned.Pinned.{Pinned}
 use Rattle.system_lists.specs.declared.fault.SystemFault.{SystemFault}
 use Rattle.system_lists.specs.Judging.{Verdict}
-use Rattle.system_lists.specs.Judging.Verdict as verdicts
-use Rattle.system_judge.specs.declared.judge.Judgement.{Judgement}
-use Rattle.system_judge.specs.declared.judge.Judgement.TheVariants.{Missing, Faulty, Unread, Whole}
+use Rattle.system_lists.specs.Judging.Verdict.{Missing as as_missing, Faulty as as_faulty, Unread as as_unread, Whole as as_whole}
+use Rattle.system_judge.specs.declared.judging.Judgement.{Judgement}
+use Rattle.system_judge.specs.declared.judging.Judgement.TheVariants.{Missing, Faulty, Unread, Whole}
 
 abbrev pub verdict_of : Judgement → Verdict
-verdict_of (Missing root) = verdicts.Missing root
-verdict_of (Faulty why) = verdicts.Faulty why
-verdict_of (Unread root) = verdicts.Unread root
-verdict_of (Whole base cached) = verdicts.Whole base cached
+verdict_of (Missing root) = as_missing root
+verdict_of (Faulty why) = as_faulty why
+verdict_of (Unread root) = as_unread root
+verdict_of (Whole base cached) = as_whole base cached
 
 -- the first of two that is wrong
 abbrev pub or_verdict : Option Verdict → Verdict → Verdict

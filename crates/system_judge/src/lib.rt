@@ -1,6 +1,6 @@
 //! Whether a system is whole, judged by what is at hand of it.
 #![tactic(auto)]
 
-mod judge;
+mod judging;
 
-pub use judge::{Evidence, Judgement, judge};
+pub use judging::{Evidence, Judgement, judge};

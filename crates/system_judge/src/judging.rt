@@ -1,8 +1,8 @@
 //! The judgement of a system: its package, its two lists and the packages of its base.
 
-ghost use Rattle.std.specs.Prelude.{◌≡◌, ◌&&◌, not, find, is_some, option_copied, Some, None, IfOk, Ok, Err};
+ghost use Rattle.std.specs.Prelude.{◌≡◌, ◌∷◌, [], not, find, is_some, option_copied, Some, None, IfOk, Ok, Err};
 ghost use Rattle.std.specs.Option.{option_map};
-ghost use Rattle.system_lists.specs.Judging.{AtHand, Verdict, judged, absent, no_book, missing_name, long_len, unread, unread_named, static_list, cached_list, base_faults, judged_lists, judged_files, first_of, system_path};
+ghost use Rattle.system_lists.specs.Judging.{AtHand, Verdict, judged, absent, no_book, missing_name, long_len, unread, unread_named, static_list, cached_list, base_faults, judged_lists, judged_files, first_of, system_path, text_of};
 ghost use Rattle.system_lists.specs.declared.fault.SystemFault.{SystemFault as SystemFaultOf};
 ghost use Rattle.system_judge.specs.Judgement.{verdict_of, or_verdict, IsList};
 
