@@ -1,0 +1,10 @@
+pub mod Stock
+pub mod Named
+pub mod Joined
+pub mod Protected
+pub mod Settled
+pub mod SettledActs
+pub mod SettledStill
+pub mod SettledLooks
+pub mod Ready
+pub mod ContentsMap

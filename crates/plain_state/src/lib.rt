@@ -1,0 +1,19 @@
+//! The state of a store in memory: each answer and each next state of the model.
+#![tactic(auto)]
+
+mod blobs;
+mod books;
+mod changes;
+mod contents;
+mod laws;
+mod packages;
+mod settling;
+mod state;
+mod turns;
+
+pub use blobs::Blob;
+pub use contents::Contents;
+pub use laws::{
+    collections_are_settled, openings_are_settled, still_acts_are_settled, stores_are_ready,
+};
+pub use state::{Standing, State};
