@@ -1,5 +1,5 @@
 -- What each call at a desk does, by its reply.
-use Rattle.std.specs.Prelude.{◌≡◌, ◌≢◌, ◌⊎◌, ℕ, ◌+◌, ◌-◌, ◌<◌, ◌≤◌, min, List, [], ◌∷◌, take, drop, length, Option, Some, None, IsSomeAnd}
+use Rattle.std.specs.Prelude.{◌≡◌, ◌≢◌, ◌⊎◌, ℕ, ◌+◌, ◌-◌, ◌<◌, ◌≤◌, min, List, [], ◌∷◌, take, drop, length, slice_index, Option, Some, None, IsSomeAnd}
 use Rattle.image_layout.specs.declared.ImageKind.{ImageKind}
 use Rattle.image_layout.specs.declared.ImageKind.TheVariants as images
 use Rattle.image_layout.specs.declared.ImageSum.{ImageSum}
@@ -272,11 +272,26 @@ KeepsAtCopy s lane image dir file (copy.Whole have) old new before after =
 KeepsAtCopy s lane image dir file (copy.Broken broken) old new before after = KeepsBlob before after × (new ≡ old)
 KeepsAtCopy s lane image dir file reply old new before after = Keeps before after × (new ≡ old)
 
--- an image that one file alone has filled to its end stands for bytes with the file's root
+-- the byte at this place is that of a file with this root
+pub record HasByteOf (root : Root) (bytes : List ℕ) (place : ℕ) : Type 0 where
+  pub file : List ℕ
+  pub is_root : merkle_root file ≡ root
+  pub within : place < length file
+  pub byte : slice_index bytes place ≡ slice_index file place
+
+-- Each byte is that of a file with this root, at its place, and there are as many as such a file has, or more. So
+-- they are the file, unless there are different files with the root.
+pub record IsMadeOf (root : Root) (bytes : List ℕ) : Type 0 where
+  pub file : List ℕ
+  pub is_root : merkle_root file ≡ root
+  pub enough : length file ≤ length bytes
+  pub each : (place : ℕ) → place < length bytes → HasByteOf root bytes place
+
+-- an image that one file alone has filled to its end stands for the bytes of files with its root
 abbrev pub IsWholeFile : ImageKind → CopyReply → Fillers → Kept → Type 0
 IsWholeFile image (copy.Whole len) fillers after =
     (root : Root) → filler_of fillers image ≡ Some root
-    → (bytes : List ℕ) × after (Image image) bytes × (merkle_root bytes ≡ root)
+    → (bytes : List ℕ) × after (Image image) bytes × IsMadeOf root bytes
 IsWholeFile image reply fillers after = Unit {0}
 
 abbrev pub Seals : Sys → SealReply → View → View → Type 0

@@ -9,6 +9,7 @@ mod ends;
 mod events;
 mod examples;
 mod holding_laws;
+mod images;
 mod lane_laws;
 mod laws;
 mod replies;
@@ -31,6 +32,7 @@ pub use examples::{
     examples_of_room, examples_of_updates, examples_of_waiting,
 };
 pub use holding_laws::lanes_hold_what_the_state_has;
+pub use images::images_are_files;
 pub use lane_laws::{
     broken_stays, claims_are_granted_once, collections_remove_the_rest,
     collections_spare_what_is_held, lanes_leave_each_other_alone, lanes_wait_where_it_is_quiet,
