@@ -8,7 +8,7 @@ use Rattle.std.proofs.lemmas.List.Sums.{sum_by-set, sum_by-cons, count_by-le-len
 use Rattle.std.proofs.lemmas.List.Folds.{sum_by-replicate}
 use Rattle.std.proofs.Math.Nat.{mul-one}
 use Rattle.page_pool.specs.Flags.{IsTaken, IsFree, free_count, taken_count, with_flags, AreDistinct}
-use Rattle.page_pool.specs.Pool.{IsFreeList}
+use Rattle.page_pool.specs.FreeList.{IsFreeList}
 
 -- the pool has a page that is free, and one that is taken
 pub inside_free : (flags : List Bool) (page : ℕ) → IsFree flags page → page < length flags

@@ -1,2 +1,3 @@
 pub mod Flags
-pub mod Pool
+pub mod FreeList
+pub mod Words

@@ -3,9 +3,9 @@
 
 mod laws;
 mod pool;
+pub mod slow;
+mod words;
 
 pub use laws::{free_or_taken, taken_after};
 pub use pool::{Full, Pool};
-
-#[cfg(test)]
-mod tests;
+pub use words::first_free_word;

@@ -1,8 +1,11 @@
-ghost use Rattle.std.specs.Prelude.{◌≡◌, ◌≢◌, ◌↔◌, ℕ, ◌+◌, ◌^◌, ◌<◌, ◌≤◌, List, [], ◌∷◌, ◌++◌, Bool, true, false, length, replicate, slice_set, vec_len, vec_capacity, IsTrue, IsErr, IfOk, IfErr, OnOk, OnErr};
-ghost use Rattle.std.specs.List.{All};
-ghost use Rattle.page_pool.specs.Flags.{IsTaken, IsFree, free_count, taken_count, with_flags, AreDistinct};
-ghost use Rattle.page_pool.specs.Pool.{IsFreeList};
+//! A pool of pages, in words of 64.
 
+ghost use Rattle.std.specs.Prelude.{◌≡◌, ◌≢◌, ◌↔◌, ℕ, ◌+◌, ◌*◌, ◌<◌, ◌≤◌, List, [], Bool, true, false, length, replicate, slice_set, vec_capacity, IsTrue, IsErr, IfOk, IfErr, OnOk, OnErr};
+ghost use Rattle.std.specs.List.{All};
+ghost use Rattle.page_pool.specs.Flags.{IsTaken, IsFree, free_count, with_flags, AreDistinct};
+ghost use Rattle.page_pool.specs.Words.{NoneFreeBelow};
+
+use crate::words::{clear_flag, first_free_word, flag_of, free_words, lowest_clear, set_flag};
 use std::alloc::{AllocError, Global};
 use std::marker::Model;
 
@@ -17,19 +20,20 @@ pub struct Full {
 /// page is taken.
 #[derive(Drop)]
 pub struct Pool {
-    free: Vec<u32>,
-    taken: Vec<bool>,
+    words: Vec<u64>,
+    pages: u32,
+    free: u32,
 }
 
 impl Model for Pool {
     ghost use Rattle.std.specs.Prelude.{List, Bool};
-    ghost use Rattle.page_pool.specs.Pool.{IsPool};
+    ghost use Rattle.page_pool.specs.Words.{flags_of, IsPool};
 
     ghost Value = { List Bool };
 
-    ghost view = { λ p. p.taken.items };
+    ghost view = { λ p. flags_of p.pages p.words.items };
 
-    ghost invariant = { λ p. IsPool p.free p.taken };
+    ghost invariant = { λ p. IsPool p.pages p.words.items p.free };
 }
 
 impl Pool {
@@ -38,9 +42,12 @@ impl Pool {
         ensures flags { IfOk result (λ pool. pool ≡ replicate pages false) }
         ensures count { IfOk result (λ pool. free_count pool ≡ pages) }
     {
-        let free = all_pages(alloc, pages)?;
-        let taken = vec![in alloc; false; pages as usize]?;
-        Ok(Pool { free, taken })
+        let words = free_words(alloc, pages)?;
+        Ok(Pool {
+            words,
+            pages,
+            free: pages,
+        })
     }
 
     /// Takes this number of pages, puts them into `out`, and allocates nothing.
@@ -63,7 +70,7 @@ impl Pool {
         if n > free {
             return Err(Full { need: n, free });
         }
-        take_pages(&mut self.free, &mut self.taken, n, out);
+        self.take_pages(n, out);
         Ok(())
     }
 
@@ -75,106 +82,66 @@ impl Pool {
         ensures are_free { All (IsFree self.new) pages.now }
         ensures count { free_count self.new ≡ free_count self.old + length pages.now }
     {
-        give_pages(&mut self.free, &mut self.taken, pages);
+        for page in pages {
+            self.give_one(*page);
+        }
     }
 
     /// How many pages are free.
     pub fn free(&self) -> u32
         ensures count { result ≡ free_count self.now }
     {
-        self.free.len() as u32
+        self.free
     }
 
     pub fn is_taken(&self, page: u32) -> bool
         ensures { IsTrue result ↔ IsTaken self.now page }
     {
-        flag_at(&self.taken, page)
+        page < self.pages && flag_of(&self.words, page)
     }
-}
 
-fn flag_at(flags: &[bool], page: u32) -> bool
-    ensures { IsTrue result ↔ IsTaken flags.now page }
-{
-    match flags.get(page as usize) {
-        Some(flag) => *flag,
-        None => false,
+    // Takes the first free page, of which the word comes from the place `from` on.
+    fn take_one(&mut self, from: &mut usize) -> u32
+        requires some { 0 < free_count self.old }
+        requires passed { NoneFreeBelow self.old (64 * from.old) }
+        ensures was_free { IsFree self.old result }
+        ensures taken { self.new ≡ slice_set self.old result true }
+        ensures left { free_count self.new + 1 ≡ free_count self.old }
+        ensures passed { NoneFreeBelow self.new (64 * from.new) }
+    {
+        let place = first_free_word(&self.words, *from).unwrap();
+        let page = place as u32 * 64 + lowest_clear(self.words[place]);
+        set_flag(&mut self.words, page);
+        self.free -= 1;
+        *from = place;
+        page
     }
-}
 
-// The pages below this number, the highest first, so that the lowest are taken first.
-fn all_pages(alloc: Global, pages: u32) -> Result<Vec<u32>, AllocError>
-    ensures list { IfOk result (λ free. IsFreeList free.items (replicate pages false)) }
-    ensures room { IfOk result (λ free. pages ≤ vec_capacity free) }
-{
-    let mut free = Vec::with_capacity(alloc, pages as usize)?;
-    for page in (0..pages).rev() {
-        free.push(page)?;
+    // Takes this number of pages.
+    fn take_pages(&mut self, n: u32, out: &mut Vec<u32>)
+        requires some { n ≤ free_count self.old }
+        requires empty { out.old.items ≡ [] }
+        requires space { n ≤ vec_capacity out.old }
+        ensures given { length out.new.items ≡ n }
+        ensures were_free { All (IsFree self.old) out.new.items }
+        ensures apart { AreDistinct out.new.items }
+        ensures taken { self.new ≡ with_flags true out.new.items self.old }
+        ensures are_taken { All (IsTaken self.new) out.new.items }
+        ensures left { free_count self.new + n ≡ free_count self.old }
+        ensures room_stays { vec_capacity out.new ≡ vec_capacity out.old }
+    {
+        let mut from = 0;
+        for _i in 0..n {
+            out.push_reserved(self.take_one(&mut from));
+        }
     }
-    Ok(free)
-}
 
-// Takes one page.
-fn take_one(free: &mut Vec<u32>, taken: &mut [bool]) -> u32
-    requires list { IsFreeList free.old.items taken.old }
-    requires some { 0 < vec_len free.old }
-    ensures was_free { IsFree taken.old result }
-    ensures taken { taken.new ≡ slice_set taken.old result true }
-    ensures list { IsFreeList free.new.items taken.new }
-    ensures count { vec_len free.new + 1 ≡ vec_len free.old }
-    ensures room { vec_capacity free.new ≡ vec_capacity free.old }
-{
-    let page = free.pop().unwrap();
-    taken[page as usize] = true;
-    page
-}
-
-// Takes this number of pages.
-fn take_pages(free: &mut Vec<u32>, taken: &mut [bool], n: u32, out: &mut Vec<u32>)
-    requires list { IsFreeList free.old.items taken.old }
-    requires some { n ≤ vec_len free.old }
-    requires empty { out.old.items ≡ [] }
-    requires space { n ≤ vec_capacity out.old }
-    ensures given { length out.new.items ≡ n }
-    ensures were_free { All (IsFree taken.old) out.new.items }
-    ensures apart { AreDistinct out.new.items }
-    ensures taken { taken.new ≡ with_flags true out.new.items taken.old }
-    ensures are_taken { All (IsTaken taken.new) out.new.items }
-    ensures left { free_count taken.new + n ≡ free_count taken.old }
-    ensures room_stays { vec_capacity out.new ≡ vec_capacity out.old }
-    ensures list { IsFreeList free.new.items taken.new }
-    ensures room { vec_capacity free.new ≡ vec_capacity free.old }
-{
-    for _i in 0..n {
-        out.push_reserved(take_one(free, taken));
-    }
-}
-
-// Gives one page back.
-fn give_one(free: &mut Vec<u32>, taken: &mut [bool], page: u32)
-    requires list { IsFreeList free.old.items taken.old }
-    requires taken { IsTaken taken.old page }
-    requires space { length taken.old ≤ vec_capacity free.old }
-    ensures given { taken.new ≡ slice_set taken.old page false }
-    ensures list { IsFreeList free.new.items taken.new }
-    ensures room { vec_capacity free.new ≡ vec_capacity free.old }
-{
-    taken[page as usize] = false;
-    free.push_reserved(page);
-}
-
-// Gives pages back.
-fn give_pages(free: &mut Vec<u32>, taken: &mut [bool], pages: &[u32])
-    requires list { IsFreeList free.old.items taken.old }
-    requires taken { All (IsTaken taken.old) pages.now }
-    requires apart { AreDistinct pages.now }
-    requires space { length taken.old ≤ vec_capacity free.old }
-    ensures given { taken.new ≡ with_flags false pages.now taken.old }
-    ensures are_free { All (IsFree taken.new) pages.now }
-    ensures count { free_count taken.new ≡ free_count taken.old + length pages.now }
-    ensures list { IsFreeList free.new.items taken.new }
-    ensures room { vec_capacity free.new ≡ vec_capacity free.old }
-{
-    for page in pages {
-        give_one(free, taken, *page);
+    // Gives one page back.
+    fn give_one(&mut self, page: u32)
+        requires taken { IsTaken self.old page }
+        ensures given { self.new ≡ slice_set self.old page false }
+    {
+        clear_flag(&mut self.words, page);
+        self.free += 1;
     }
 }

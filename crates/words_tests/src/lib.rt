@@ -9,6 +9,8 @@ pub use set_up::bytes_of;
 #[cfg(test)]
 mod names;
 #[cfg(test)]
+mod pools;
+#[cfg(test)]
 mod streams;
 #[cfg(test)]
 mod texts;

@@ -2,7 +2,7 @@ use Rattle.std.proofs.Common.{◌≡◌, ℕ, Bool, false, List, All, get_or, se
 use Rattle.std.proofs.lemmas.List.{take_more, take_all}
 use Rattle.page_pool.specs.Flags.{IsTaken, IsFree, free_count, with_flags}
 use Rattle.page_pool.proofs.FlagLemmas.{next_taken, with_flags-push, are_free, give_counted}
-use Rattle.page_pool.proofs.pool.give_pages.Goals as goal
+use Rattle.page_pool.proofs.slow.give_pages.Goals as goal
 
 pub give_one-requires-clause-taken : goal.give_one-requires-clause-taken
 give_one-requires-clause-taken c =

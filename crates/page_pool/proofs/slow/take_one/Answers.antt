@@ -1,7 +1,7 @@
 use Rattle.std.proofs.Common.{◌≡◌, ℕ, List, [], ◌∷◌, ◌++◌, ap, subst, ◌∙◌, option_to_list, Option}
-use Rattle.page_pool.specs.Pool.{IsFreeList}
+use Rattle.page_pool.specs.FreeList.{IsFreeList}
 use Rattle.page_pool.proofs.FlagLemmas.{list_take}
-use Rattle.page_pool.proofs.pool.take_one.Goals as goal
+use Rattle.page_pool.proofs.slow.take_one.Goals as goal
 
 pub returns-clause-list : goal.returns-clause-list
 returns-clause-list c =

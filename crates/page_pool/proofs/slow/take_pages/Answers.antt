@@ -4,7 +4,7 @@ use Rattle.std.proofs.lemmas.List.Elements.{All-push}
 use Rattle.std.proofs.lemmas.List.Quantifiers.{all_pairs_push}
 use Rattle.page_pool.specs.Flags.{IsFree, IsTaken, free_count, AreDistinct, with_flags}
 use Rattle.page_pool.proofs.FlagLemmas.{still_free, with_flags-push, are_taken, take_counted}
-use Rattle.page_pool.proofs.pool.take_pages.Goals as goal
+use Rattle.page_pool.proofs.slow.take_pages.Goals as goal
 
 pub loop-i-preserved : goal.loop-i-preserved
 loop-i-preserved c =

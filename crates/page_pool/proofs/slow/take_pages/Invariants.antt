@@ -1,7 +1,7 @@
 use Rattle.std.proofs.Common.{◌≡◌, ◌+◌, length, true, All, vec_len, vec_capacity}
 use Rattle.page_pool.specs.Flags.{IsFree, AreDistinct, with_flags}
-use Rattle.page_pool.specs.Pool.{IsFreeList}
-use Rattle.page_pool.proofs.pool.take_pages.Given as goal
+use Rattle.page_pool.specs.FreeList.{IsFreeList}
+use Rattle.page_pool.proofs.slow.take_pages.Given as goal
 
 abbrev pub invariant-loop-i : goal.invariant-loop-i
 invariant-loop-i l = record {

@@ -1,7 +1,7 @@
 use Rattle.std.proofs.Common.{◌≡◌, false, take, vec_capacity}
 use Rattle.page_pool.specs.Flags.{with_flags}
-use Rattle.page_pool.specs.Pool.{IsFreeList}
-use Rattle.page_pool.proofs.pool.give_pages.Given as goal
+use Rattle.page_pool.specs.FreeList.{IsFreeList}
+use Rattle.page_pool.proofs.slow.give_pages.Given as goal
 
 abbrev pub invariant-loop-page : goal.invariant-loop-page
 invariant-loop-page l = record {
