@@ -1,6 +1,7 @@
 use crate::blobs::{attach, check, drop_draft, land, put, read_all, remove, room};
 use crate::samples::{Came, DATA, SMALL, attached, empty, free, sample, store};
 use blob_disk::{BlobFault, CheckFault, LandEnd, PutEnd, RemoveEnd, RoomFault};
+use blob_pages::Draft;
 use disk_model::{Disk, FuseDisk, MemDisk};
 use image_layout::Place;
 use node_table::LoadFault;
@@ -8,16 +9,19 @@ use pkg_merkle::root_of;
 use pkg_names::Root;
 use std::test::Fail;
 
+fn refused(answer: Option<Result<Draft, RoomFault>>) -> Option<RoomFault> {
+    match answer {
+        Some(Err(fault)) => Some(fault),
+        _ => None,
+    }
+}
+
 #[test]
 fn no_room(rt: HostRuntime) -> Result<(), Fail> {
     let alloc = rt.alloc();
     let mut disk = empty(alloc)?;
     let mut blobs = attached(alloc, &mut disk)?;
     let root = Root([9; 32]);
-    let refused = |answer: Option<Result<_, RoomFault>>| match answer {
-        Some(Err(fault)) => Some(fault),
-        _ => None,
-    };
     // 1021 pages and one
     let Some(Ok(_most)) = room(alloc, &mut blobs, Root([1; 32]), 4_182_016) else {
         return Err(Fail::new("no room"));
@@ -47,7 +51,7 @@ fn full_stocks(rt: HostRuntime) -> Result<(), Fail> {
     let alloc = rt.alloc();
     let mut disk = empty(alloc)?;
     let mut blobs = attached(alloc, &mut disk)?;
-    for byte in 0..63 {
+    for byte in 0u8..63 {
         assert_eq!(rt; store(alloc, &mut blobs, &mut disk, &[byte])?, Came::Landed);
     }
     // 63 blobs and a draft, and then 64 blobs
@@ -69,8 +73,8 @@ fn full_stocks(rt: HostRuntime) -> Result<(), Fail> {
     );
     let mut again = attached(alloc, &mut disk)?;
     assert_eq!(rt; again.entries().len(), 64);
-    for (byte, entry) in again.entries().iter().enumerate() {
-        assert_eq!(rt; entry.root, root_of(&[byte as u8]), "{byte}");
+    for (byte, entry) in (0u8..64).zip(again.entries().iter()) {
+        assert_eq!(rt; entry.root, root_of(&[byte]), "{byte}");
     }
     assert!(rt;
         matches!(
@@ -179,7 +183,10 @@ fn reads_that_are_refused(rt: HostRuntime) -> Result<(), Fail> {
         let mut disk = empty(alloc)?;
         let mut blobs = attached(alloc, &mut disk)?;
         assert_eq!(rt; store(alloc, &mut blobs, &mut disk, b"hi")?, Came::Landed);
-        let [page] = blobs.entries()[0].pages.as_slice() else {
+        let [entry] = blobs.entries() else {
+            return Err(Fail::new("not one blob"));
+        };
+        let [page] = entry.pages.as_slice() else {
             return Err(Fail::new("not one page"));
         };
         assert!(rt; *page < 1024);
@@ -220,10 +227,13 @@ fn damaged_disks(rt: HostRuntime) -> Result<(), Fail> {
         let mut blobs = attached(alloc, &mut disk)?;
         assert_eq!(rt; store(alloc, &mut blobs, &mut disk, b"hi")?, Came::Landed);
         assert_eq!(rt; store(alloc, &mut blobs, &mut disk, b"ho")?, Came::Landed);
-        let ([a], [b]) = (
-            blobs.entries()[0].pages.as_slice(),
-            blobs.entries()[1].pages.as_slice(),
-        ) else {
+        let [one, other] = blobs.entries() else {
+            return Err(Fail::new("not two blobs"));
+        };
+        let [a] = one.pages.as_slice() else {
+            return Err(Fail::new("not one page"));
+        };
+        let [b] = other.pages.as_slice() else {
             return Err(Fail::new("not one page"));
         };
         assert!(rt; *a < 1024 && *b < 1024);
