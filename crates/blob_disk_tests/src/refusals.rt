@@ -1,11 +1,10 @@
 use crate::blobs::{attach, check, drop_draft, land, put, read_all, remove, room};
-use crate::samples::{Came, DATA, SMALL, attached, empty, free, sample, store};
+use crate::samples::{Came, DATA, SMALL, attached, empty, free, root_for, sample, store};
 use blob_disk::{BlobFault, CheckFault, LandEnd, PutEnd, RemoveEnd, RoomFault};
 use blob_pages::Draft;
 use disk_model::{Disk, FuseDisk, MemDisk};
 use image_layout::Place;
 use node_table::LoadFault;
-use pkg_merkle::root_of;
 use pkg_names::Root;
 use std::test::Fail;
 
@@ -55,10 +54,10 @@ fn full_stocks(rt: HostRuntime) -> Result<(), Fail> {
         assert_eq!(rt; store(alloc, &mut blobs, &mut disk, &[byte])?, Came::Landed);
     }
     // 63 blobs and a draft, and then 64 blobs
-    let Some(Ok(mut last)) = room(alloc, &mut blobs, root_of(&[63]), 1) else {
+    let Some(Ok(mut last)) = room(alloc, &mut blobs, root_for(&[63]), 1) else {
         return Err(Fail::new("no room"));
     };
-    let next = room(alloc, &mut blobs, root_of(&[64]), 4_194_304);
+    let next = room(alloc, &mut blobs, root_for(&[64]), 4_194_304);
     assert!(rt; matches!(next, Some(Err(RoomFault::NoNode))));
     assert_eq!(rt;
         put(&mut blobs, &mut disk, &mut last, &[63]),
@@ -67,23 +66,23 @@ fn full_stocks(rt: HostRuntime) -> Result<(), Fail> {
     assert!(rt; matches!(land(&mut blobs, &mut disk, last), Some(LandEnd::Landed(_))));
     assert!(rt;
         matches!(
-            room(alloc, &mut blobs, root_of(&[64]), 1),
+            room(alloc, &mut blobs, root_for(&[64]), 1),
             Some(Err(RoomFault::NoNode))
         )
     );
     let mut again = attached(alloc, &mut disk)?;
     assert_eq!(rt; again.entries().len(), 64);
     for (byte, entry) in (0u8..64).zip(again.entries().iter()) {
-        assert_eq!(rt; entry.root, root_of(&[byte]), "{byte}");
+        assert_eq!(rt; entry.root, root_for(&[byte]), "{byte}");
     }
     assert!(rt;
         matches!(
-            room(alloc, &mut again, root_of(&[64]), 1),
+            room(alloc, &mut again, root_for(&[64]), 1),
             Some(Err(RoomFault::NoNode))
         )
     );
     assert_eq!(rt;
-        remove(&mut again, &mut disk, &[root_of(&[7]), root_of(&[0])]),
+        remove(&mut again, &mut disk, &[root_for(&[7]), root_for(&[0])]),
         Some(RemoveEnd::Removed)
     );
     assert_eq!(rt; again.entries().len(), 62);
@@ -97,9 +96,9 @@ fn ends_without_a_blob(rt: HostRuntime) -> Result<(), Fail> {
     let mut disk = empty(alloc)?;
     let mut blobs = attached(alloc, &mut disk)?;
     let bytes = sample(alloc, 5000)?;
-    let acts = disk.acts();
+    assert_eq!(rt; disk.acts(), 6);
     // `hi` is declared with one byte
-    let Some(Ok(mut draft)) = room(alloc, &mut blobs, root_of(b"h"), 1) else {
+    let Some(Ok(mut draft)) = room(alloc, &mut blobs, root_for(b"h"), 1) else {
         return Err(Fail::new("no room"));
     };
     assert_eq!(rt;
@@ -113,8 +112,8 @@ fn ends_without_a_blob(rt: HostRuntime) -> Result<(), Fail> {
     assert!(rt; matches!(land(&mut blobs, &mut disk, draft), Some(LandEnd::Landed(_))));
     assert_eq!(rt; free(alloc, &mut blobs), Some(1023));
     // too few bytes, and bytes of another root, of which the one full page was written
-    for (len, wanted) in [(5001, None), (5000, Some(root_of(&bytes)))] {
-        let Some(Ok(mut draft)) = room(alloc, &mut blobs, root_of(b"h1"), len) else {
+    for (len, wanted) in [(5001, None), (5000, Some(root_for(&bytes)))] {
+        let Some(Ok(mut draft)) = room(alloc, &mut blobs, root_for(b"h1"), len) else {
             return Err(Fail::new("no room"));
         };
         assert_eq!(rt; free(alloc, &mut blobs), Some(1021));
@@ -130,7 +129,7 @@ fn ends_without_a_blob(rt: HostRuntime) -> Result<(), Fail> {
         assert_eq!(rt; free(alloc, &mut blobs), Some(1023));
         assert_eq!(rt; blobs.drafts().len(), 0);
     }
-    let Some(Ok(mut draft)) = room(alloc, &mut blobs, root_of(b"h1"), 5000) else {
+    let Some(Ok(mut draft)) = room(alloc, &mut blobs, root_for(b"h1"), 5000) else {
         return Err(Fail::new("no room"));
     };
     assert_eq!(rt;
@@ -139,7 +138,7 @@ fn ends_without_a_blob(rt: HostRuntime) -> Result<(), Fail> {
     );
     assert!(rt; drop_draft(&mut blobs, draft));
     assert_eq!(rt; free(alloc, &mut blobs), Some(1023));
-    assert_eq!(rt; disk.acts(), acts + 7 + 2);
+    assert_eq!(rt; disk.acts(), 6 + 7 + 2);
     assert!(rt; !blobs.is_broken());
     Ok(())
 }
@@ -159,9 +158,9 @@ fn blown(disk: MemDisk) -> FuseDisk {
 #[test]
 fn reads_that_are_refused(rt: HostRuntime) -> Result<(), Fail> {
     let alloc = rt.alloc();
-    let root = root_of(b"hi");
+    let root = root_for(b"hi");
     // root of 77 and 77
-    let got = root_of(&[77, 77]);
+    let got = root_for(&[77, 77]);
     for (limit, fails, wrong, fault, checked) in [
         (
             1,
@@ -215,7 +214,7 @@ fn reads_that_are_refused(rt: HostRuntime) -> Result<(), Fail> {
 #[test]
 fn damaged_disks(rt: HostRuntime) -> Result<(), Fail> {
     let alloc = rt.alloc();
-    let (first, second) = (root_of(b"hi"), root_of(b"ho"));
+    let (first, second) = (root_for(b"hi"), root_for(b"ho"));
     // the pages that are spoilt, of: the selector, the rows, the first and the second blob
     for (spoilt, place) in [
         (&[0usize, 1, 2, 3] as &[usize], Place::Selector),

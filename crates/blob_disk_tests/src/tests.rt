@@ -1,10 +1,9 @@
 use crate::blobs::{add_and_write, check, drop_draft, land, put, read_all, remove, room};
 use crate::samples::{
-    Came, DATA, SMALL, are_stored, attached, empty, free, reads_part, sample, store,
+    Came, DATA, SMALL, are_stored, attached, empty, free, reads_part, root_for, sample, store,
 };
 use blob_disk::{LandEnd, PutEnd, RemoveEnd, WriteEnd};
 use disk_model::{Disk, FuseDisk, MemDisk, Pick, restart};
-use pkg_merkle::root_of;
 use pkg_names::read_root;
 use std::alloc::Global;
 use std::test::Fail;
@@ -16,8 +15,10 @@ fn each_call(rt: HostRuntime) -> Result<(), Fail> {
     let mut blobs = attached(alloc, &mut disk)?;
     assert!(rt; *blobs.geometry() == SMALL && blobs.entries().is_empty() && !blobs.is_broken());
     let long = sample(alloc, 70_000)?;
-    let (front, back) = long.split_at(5000);
-    let root = root_of(&long);
+    let Some((front, back)) = long.split_at_checked(5000) else {
+        return Err(Fail::new("too short"));
+    };
+    let root = root_for(&long);
     let Some(Ok(mut draft)) = room(alloc, &mut blobs, root, 70_000) else {
         return Err(Fail::new("no room"));
     };
@@ -46,7 +47,7 @@ fn each_call(rt: HostRuntime) -> Result<(), Fail> {
         return Err(Fail::new("not two blobs"));
     };
     assert!(rt; first.root == root && first.len == 70_000);
-    assert!(rt; second.root == root_of(b"hi") && second.len == 2);
+    assert!(rt; second.root == root_for(b"hi") && second.len == 2);
     match read_all(alloc, &blobs, &mut disk, &root, 70_000) {
         Some(Ok(bytes)) => assert!(rt; bytes.as_slice() == long.as_slice()),
         _ => return Err(Fail::new("not read")),
@@ -229,7 +230,7 @@ fn power_loss_in_a_removal(rt: HostRuntime) -> Result<(), Fail> {
         assert_eq!(rt; disk.acts(), 22);
         let mut fuse = FuseDisk::make(disk, left);
         assert_eq!(rt;
-            remove(&mut blobs, &mut fuse, &[root_of(&gone)]),
+            remove(&mut blobs, &mut fuse, &[root_for(&gone)]),
             Some(end),
             "{left}"
         );
@@ -267,11 +268,11 @@ fn no_roots_make_no_call(rt: HostRuntime) -> Result<(), Fail> {
     let mut disk = blown.inner();
     // a root that has no blob is passed over
     assert_eq!(rt;
-        remove(&mut blobs, &mut disk, &[root_of(b"ho")]),
+        remove(&mut blobs, &mut disk, &[root_for(b"ho")]),
         Some(RemoveEnd::Removed)
     );
     assert!(rt; are_stored(alloc, &blobs, &mut disk, b"hi", None));
-    let Some(Ok(draft)) = room(alloc, &mut blobs, root_of(b"ho"), 2) else {
+    let Some(Ok(draft)) = room(alloc, &mut blobs, root_for(b"ho"), 2) else {
         return Err(Fail::new("no room"));
     };
     assert!(rt; drop_draft(&mut blobs, draft));
