@@ -1,12 +1,19 @@
 use crate::blobs::{attach, check, drop_draft, land, put, read_all, remove, room};
-use crate::samples::{Came, DATA, SMALL, attached, empty, free, sample, store};
+use crate::samples::{Came, DATA, SMALL, attached, empty, free, root_for, sample, store};
 use blob_disk::{BlobFault, CheckFault, LandEnd, PutEnd, RemoveEnd, RoomFault};
+use blob_pages::Draft;
 use disk_model::{Disk, FuseDisk, MemDisk};
 use image_layout::Place;
 use node_table::LoadFault;
-use pkg_merkle::root_of;
 use pkg_names::Root;
 use std::test::Fail;
+
+fn refused(answer: Option<Result<Draft, RoomFault>>) -> Option<RoomFault> {
+    match answer {
+        Some(Err(fault)) => Some(fault),
+        _ => None,
+    }
+}
 
 #[test]
 fn no_room(rt: HostRuntime) -> Result<(), Fail> {
@@ -14,10 +21,6 @@ fn no_room(rt: HostRuntime) -> Result<(), Fail> {
     let mut disk = empty(alloc)?;
     let mut blobs = attached(alloc, &mut disk)?;
     let root = Root([9; 32]);
-    let refused = |answer: Option<Result<_, RoomFault>>| match answer {
-        Some(Err(fault)) => Some(fault),
-        _ => None,
-    };
     // 1021 pages and one
     let Some(Ok(_most)) = room(alloc, &mut blobs, Root([1; 32]), 4_182_016) else {
         return Err(Fail::new("no room"));
@@ -47,14 +50,14 @@ fn full_stocks(rt: HostRuntime) -> Result<(), Fail> {
     let alloc = rt.alloc();
     let mut disk = empty(alloc)?;
     let mut blobs = attached(alloc, &mut disk)?;
-    for byte in 0..63 {
+    for byte in 0u8..63 {
         assert_eq!(rt; store(alloc, &mut blobs, &mut disk, &[byte])?, Came::Landed);
     }
     // 63 blobs and a draft, and then 64 blobs
-    let Some(Ok(mut last)) = room(alloc, &mut blobs, root_of(&[63]), 1) else {
+    let Some(Ok(mut last)) = room(alloc, &mut blobs, root_for(&[63]), 1) else {
         return Err(Fail::new("no room"));
     };
-    let next = room(alloc, &mut blobs, root_of(&[64]), 4_194_304);
+    let next = room(alloc, &mut blobs, root_for(&[64]), 4_194_304);
     assert!(rt; matches!(next, Some(Err(RoomFault::NoNode))));
     assert_eq!(rt;
         put(&mut blobs, &mut disk, &mut last, &[63]),
@@ -63,23 +66,23 @@ fn full_stocks(rt: HostRuntime) -> Result<(), Fail> {
     assert!(rt; matches!(land(&mut blobs, &mut disk, last), Some(LandEnd::Landed(_))));
     assert!(rt;
         matches!(
-            room(alloc, &mut blobs, root_of(&[64]), 1),
+            room(alloc, &mut blobs, root_for(&[64]), 1),
             Some(Err(RoomFault::NoNode))
         )
     );
     let mut again = attached(alloc, &mut disk)?;
     assert_eq!(rt; again.entries().len(), 64);
-    for (byte, entry) in again.entries().iter().enumerate() {
-        assert_eq!(rt; entry.root, root_of(&[byte as u8]), "{byte}");
+    for (byte, entry) in (0u8..64).zip(again.entries().iter()) {
+        assert_eq!(rt; entry.root, root_for(&[byte]), "{byte}");
     }
     assert!(rt;
         matches!(
-            room(alloc, &mut again, root_of(&[64]), 1),
+            room(alloc, &mut again, root_for(&[64]), 1),
             Some(Err(RoomFault::NoNode))
         )
     );
     assert_eq!(rt;
-        remove(&mut again, &mut disk, &[root_of(&[7]), root_of(&[0])]),
+        remove(&mut again, &mut disk, &[root_for(&[7]), root_for(&[0])]),
         Some(RemoveEnd::Removed)
     );
     assert_eq!(rt; again.entries().len(), 62);
@@ -93,9 +96,9 @@ fn ends_without_a_blob(rt: HostRuntime) -> Result<(), Fail> {
     let mut disk = empty(alloc)?;
     let mut blobs = attached(alloc, &mut disk)?;
     let bytes = sample(alloc, 5000)?;
-    let acts = disk.acts();
+    assert_eq!(rt; disk.acts(), 6);
     // `hi` is declared with one byte
-    let Some(Ok(mut draft)) = room(alloc, &mut blobs, root_of(b"h"), 1) else {
+    let Some(Ok(mut draft)) = room(alloc, &mut blobs, root_for(b"h"), 1) else {
         return Err(Fail::new("no room"));
     };
     assert_eq!(rt;
@@ -109,8 +112,8 @@ fn ends_without_a_blob(rt: HostRuntime) -> Result<(), Fail> {
     assert!(rt; matches!(land(&mut blobs, &mut disk, draft), Some(LandEnd::Landed(_))));
     assert_eq!(rt; free(alloc, &mut blobs), Some(1023));
     // too few bytes, and bytes of another root, of which the one full page was written
-    for (len, wanted) in [(5001, None), (5000, Some(root_of(&bytes)))] {
-        let Some(Ok(mut draft)) = room(alloc, &mut blobs, root_of(b"h1"), len) else {
+    for (len, wanted) in [(5001, None), (5000, Some(root_for(&bytes)))] {
+        let Some(Ok(mut draft)) = room(alloc, &mut blobs, root_for(b"h1"), len) else {
             return Err(Fail::new("no room"));
         };
         assert_eq!(rt; free(alloc, &mut blobs), Some(1021));
@@ -126,7 +129,7 @@ fn ends_without_a_blob(rt: HostRuntime) -> Result<(), Fail> {
         assert_eq!(rt; free(alloc, &mut blobs), Some(1023));
         assert_eq!(rt; blobs.drafts().len(), 0);
     }
-    let Some(Ok(mut draft)) = room(alloc, &mut blobs, root_of(b"h1"), 5000) else {
+    let Some(Ok(mut draft)) = room(alloc, &mut blobs, root_for(b"h1"), 5000) else {
         return Err(Fail::new("no room"));
     };
     assert_eq!(rt;
@@ -135,7 +138,7 @@ fn ends_without_a_blob(rt: HostRuntime) -> Result<(), Fail> {
     );
     assert!(rt; drop_draft(&mut blobs, draft));
     assert_eq!(rt; free(alloc, &mut blobs), Some(1023));
-    assert_eq!(rt; disk.acts(), acts + 7 + 2);
+    assert_eq!(rt; disk.acts(), 6 + 7 + 2);
     assert!(rt; !blobs.is_broken());
     Ok(())
 }
@@ -155,9 +158,9 @@ fn blown(disk: MemDisk) -> FuseDisk {
 #[test]
 fn reads_that_are_refused(rt: HostRuntime) -> Result<(), Fail> {
     let alloc = rt.alloc();
-    let root = root_of(b"hi");
+    let root = root_for(b"hi");
     // root of 77 and 77
-    let got = root_of(&[77, 77]);
+    let got = root_for(&[77, 77]);
     for (limit, fails, wrong, fault, checked) in [
         (
             1,
@@ -179,7 +182,10 @@ fn reads_that_are_refused(rt: HostRuntime) -> Result<(), Fail> {
         let mut disk = empty(alloc)?;
         let mut blobs = attached(alloc, &mut disk)?;
         assert_eq!(rt; store(alloc, &mut blobs, &mut disk, b"hi")?, Came::Landed);
-        let [page] = blobs.entries()[0].pages.as_slice() else {
+        let [entry] = blobs.entries() else {
+            return Err(Fail::new("not one blob"));
+        };
+        let [page] = entry.pages.as_slice() else {
             return Err(Fail::new("not one page"));
         };
         assert!(rt; *page < 1024);
@@ -208,7 +214,7 @@ fn reads_that_are_refused(rt: HostRuntime) -> Result<(), Fail> {
 #[test]
 fn damaged_disks(rt: HostRuntime) -> Result<(), Fail> {
     let alloc = rt.alloc();
-    let (first, second) = (root_of(b"hi"), root_of(b"ho"));
+    let (first, second) = (root_for(b"hi"), root_for(b"ho"));
     // the pages that are spoilt, of: the selector, the rows, the first and the second blob
     for (spoilt, place) in [
         (&[0usize, 1, 2, 3] as &[usize], Place::Selector),
@@ -220,10 +226,13 @@ fn damaged_disks(rt: HostRuntime) -> Result<(), Fail> {
         let mut blobs = attached(alloc, &mut disk)?;
         assert_eq!(rt; store(alloc, &mut blobs, &mut disk, b"hi")?, Came::Landed);
         assert_eq!(rt; store(alloc, &mut blobs, &mut disk, b"ho")?, Came::Landed);
-        let ([a], [b]) = (
-            blobs.entries()[0].pages.as_slice(),
-            blobs.entries()[1].pages.as_slice(),
-        ) else {
+        let [one, other] = blobs.entries() else {
+            return Err(Fail::new("not two blobs"));
+        };
+        let [a] = one.pages.as_slice() else {
+            return Err(Fail::new("not one page"));
+        };
+        let [b] = other.pages.as_slice() else {
             return Err(Fail::new("not one page"));
         };
         assert!(rt; *a < 1024 && *b < 1024);

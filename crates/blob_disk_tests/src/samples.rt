@@ -1,6 +1,6 @@
 //! Blobs and disks of the tests.
 
-use crate::blobs::{attach, format, land, put, read_all, room};
+use crate::blobs::{attach, format, land, put, read_all, read_part, room};
 use blob_disk::{Blobs, LandEnd, PutEnd, RoomFault};
 use disk_model::{Disk, MemDisk};
 use image_layout::Geometry;
@@ -26,6 +26,14 @@ pub fn sample(alloc: Global, count: u32) -> Result<Vec<u8>, AllocError> {
         bytes.push(((7 * (i % 251) + 3) % 251) as u8)?;
     }
     Ok(bytes)
+}
+
+/// The root of a blob, which is short.
+pub fn root_for(bytes: &[u8]) -> Root {
+    if bytes.len() > 100_000 {
+        return Root([0; 32]);
+    }
+    root_of(bytes)
 }
 
 /// A disk with an empty stock, which took six acts.
@@ -61,7 +69,7 @@ pub fn store<D: Disk>(
     disk: &mut D,
     bytes: &[u8],
 ) -> Result<Came, Fail> {
-    let Some(Ok(mut draft)) = room(alloc, blobs, root_of(bytes), bytes.len() as u64) else {
+    let Some(Ok(mut draft)) = room(alloc, blobs, root_for(bytes), bytes.len() as u64) else {
         return Err(Fail::new("no room"));
     };
     match put(blobs, disk, &mut draft, bytes) {
@@ -76,21 +84,56 @@ pub fn store<D: Disk>(
     }
 }
 
-/// Whether just these blobs are stored, in this order, and are read.
-pub fn are_stored<D: Disk>(alloc: Global, blobs: &Blobs, disk: &mut D, wanted: &[&[u8]]) -> bool {
-    if blobs.entries().len() != wanted.len() {
+// Whether the entry at this place is of the blob, and the blob is read.
+fn is_read<D: Disk>(alloc: Global, blobs: &Blobs, disk: &mut D, at: usize, bytes: &[u8]) -> bool {
+    let root = root_for(bytes);
+    match blobs.entries().get(at) {
+        Some(entry) if entry.root == root => {}
+        _ => return false,
+    }
+    match read_all(alloc, blobs, disk, &root, 65_536) {
+        Some(Ok(read)) => read.as_slice() == bytes,
+        _ => false,
+    }
+}
+
+/// Whether the stock is this blob, and then that one if there is one.
+pub fn are_stored<D: Disk>(
+    alloc: Global,
+    blobs: &Blobs,
+    disk: &mut D,
+    first: &[u8],
+    second: Option<&[u8]>,
+) -> bool {
+    if !is_read(alloc, blobs, disk, 0, first) {
         return false;
     }
-    for (entry, bytes) in blobs.entries().iter().zip(wanted.iter()) {
-        if entry.root != root_of(bytes) {
-            return false;
-        }
-        match read_all(alloc, blobs, disk, &entry.root, 65_536) {
-            Some(Ok(read)) if read.as_slice() == *bytes => {}
-            _ => return false,
-        }
+    match second {
+        Some(bytes) => blobs.entries().len() == 2 && is_read(alloc, blobs, disk, 1, bytes),
+        None => blobs.entries().len() == 1,
     }
-    true
+}
+
+/// Whether a read of this many bytes from this place on gives that many of the blob, and leaves the others.
+pub fn reads_part<D: Disk>(
+    blobs: &Blobs,
+    disk: &mut D,
+    bytes: &[u8],
+    from: usize,
+    size: usize,
+    count: usize,
+) -> bool {
+    let mut room = [9; 20];
+    let (Some(out), Some(rest)) = (room.get_mut(..size), bytes.get(from..)) else {
+        return false;
+    };
+    let read = read_part(blobs, disk, &root_for(bytes), from as u64, out);
+    match (rest.get(..count), out.split_at_checked(count)) {
+        (Some(wanted), Some((front, back))) => {
+            read == Some(Ok(count)) && front == wanted && back.iter().all(|byte| *byte == 9)
+        }
+        _ => false,
+    }
 }
 
 /// How many data pages are free, as the refusal of a blob of all 8192 pages tells.

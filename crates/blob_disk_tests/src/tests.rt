@@ -1,10 +1,9 @@
-use crate::blobs::{
-    add_and_write, check, drop_draft, land, put, read_all, read_part, remove, room,
+use crate::blobs::{add_and_write, check, drop_draft, land, put, read_all, remove, room};
+use crate::samples::{
+    Came, DATA, SMALL, are_stored, attached, empty, free, reads_part, root_for, sample, store,
 };
-use crate::samples::{Came, DATA, SMALL, are_stored, attached, empty, free, sample, store};
 use blob_disk::{LandEnd, PutEnd, RemoveEnd, WriteEnd};
 use disk_model::{Disk, FuseDisk, MemDisk, Pick, restart};
-use pkg_merkle::root_of;
 use pkg_names::read_root;
 use std::alloc::Global;
 use std::test::Fail;
@@ -16,8 +15,10 @@ fn each_call(rt: HostRuntime) -> Result<(), Fail> {
     let mut blobs = attached(alloc, &mut disk)?;
     assert!(rt; *blobs.geometry() == SMALL && blobs.entries().is_empty() && !blobs.is_broken());
     let long = sample(alloc, 70_000)?;
-    let (front, back) = long.split_at(5000);
-    let root = root_of(&long);
+    let Some((front, back)) = long.split_at_checked(5000) else {
+        return Err(Fail::new("too short"));
+    };
+    let root = root_for(&long);
     let Some(Ok(mut draft)) = room(alloc, &mut blobs, root, 70_000) else {
         return Err(Fail::new("no room"));
     };
@@ -42,8 +43,11 @@ fn each_call(rt: HostRuntime) -> Result<(), Fail> {
     assert_eq!(rt; disk.acts(), 6 + 17 + 7);
     assert_eq!(rt; blobs.drafts().len(), 0);
     assert_eq!(rt; store(alloc, &mut blobs, &mut disk, b"hi")?, Came::Landed);
-    assert_eq!(rt; blobs.entries()[0].root, root);
-    assert_eq!(rt; blobs.entries()[0].len, 70_000);
+    let [first, second] = blobs.entries() else {
+        return Err(Fail::new("not two blobs"));
+    };
+    assert!(rt; first.root == root && first.len == 70_000);
+    assert!(rt; second.root == root_for(b"hi") && second.len == 2);
     match read_all(alloc, &blobs, &mut disk, &root, 70_000) {
         Some(Ok(bytes)) => assert!(rt; bytes.as_slice() == long.as_slice()),
         _ => return Err(Fail::new("not read")),
@@ -55,26 +59,20 @@ fn each_call(rt: HostRuntime) -> Result<(), Fail> {
         (69_990, 20, 10),
         (70_000, 5, 0),
     ] {
-        let mut out = [0; 20];
-        assert_eq!(rt;
-            read_part(&blobs, &mut disk, &root, from, &mut out[..size]),
-            Some(Ok(count)),
-            "{from}"
-        );
-        assert!(rt; out[..count] == long[from as usize..from as usize + count]);
-        assert!(rt; out[count..].iter().all(|byte| *byte == 0));
+        let read = reads_part(&blobs, &mut disk, &long, from, size, count);
+        assert!(rt; read, "{from}");
     }
     let mut again = attached(alloc, &mut disk)?;
-    assert!(rt; again.entries().len() == 2 && again.entries()[1].root == root_of(b"hi"));
+    assert_eq!(rt; again.entries().len(), 2);
     assert_eq!(rt; free(alloc, &mut again), Some(1005));
     assert_eq!(rt;
         remove(&mut again, &mut disk, &[root]),
         Some(RemoveEnd::Removed)
     );
     assert_eq!(rt; free(alloc, &mut again), Some(1023));
-    assert!(rt; are_stored(alloc, &again, &mut disk, &[b"hi"]));
+    assert!(rt; are_stored(alloc, &again, &mut disk, b"hi", None));
     let left = attached(alloc, &mut disk)?;
-    assert!(rt; are_stored(alloc, &left, &mut disk, &[b"hi"]));
+    assert!(rt; are_stored(alloc, &left, &mut disk, b"hi", None));
     Ok(())
 }
 
@@ -123,11 +121,17 @@ fn long_blobs(rt: HostRuntime) -> Result<(), Fail> {
     Ok(())
 }
 
-// The stock of a disk after a power loss that leaves these picks.
-fn is_left(alloc: Global, disk: &MemDisk, picks: &[Pick], wanted: &[&[u8]]) -> Result<bool, Fail> {
+// Whether a power loss that leaves these picks leaves this stock.
+fn is_left(
+    alloc: Global,
+    disk: &MemDisk,
+    picks: &[Pick],
+    first: &[u8],
+    second: Option<&[u8]>,
+) -> Result<bool, Fail> {
     let mut after = restart(alloc, disk, picks)?;
     let blobs = attached(alloc, &mut after)?;
-    Ok(are_stored(alloc, &blobs, &mut after, wanted))
+    Ok(are_stored(alloc, &blobs, &mut after, first, second))
 }
 
 #[test]
@@ -135,20 +139,19 @@ fn power_loss_in_a_landing(rt: HostRuntime) -> Result<(), Fail> {
     let alloc = rt.alloc();
     let old = sample(alloc, 5000)?;
     let new = sample(alloc, 4097)?;
-    let before: &[&[u8]] = &[&old];
-    let after: &[&[u8]] = &[&old, &new];
     // the writes and syncs that pass, how it ended, the writes since the last sync (of: the full page, the open
-    // page, the rows, the links, the selector), and the stock after a restart without them and with them
+    // page, the rows, the links, the selector), and whether the new blob is there after a restart without them
+    // and with them
     for (left, came, from, to, without, with) in [
-        (0, Came::PutBroke, 0, 1, before, before),
-        (1, Came::LandBroke, 0, 2, before, before),
-        (2, Came::LandBroke, 0, 2, before, before),
-        (3, Came::LandBroke, 2, 3, before, before),
-        (4, Came::LandBroke, 2, 4, before, before),
-        (5, Came::LandBroke, 2, 4, before, before),
-        (6, Came::LandBroke, 4, 5, before, after),
-        (7, Came::LandBroke, 4, 5, before, after),
-        (8, Came::Landed, 0, 0, after, after),
+        (0, Came::PutBroke, 0, 1, false, false),
+        (1, Came::LandBroke, 0, 2, false, false),
+        (2, Came::LandBroke, 0, 2, false, false),
+        (3, Came::LandBroke, 2, 3, false, false),
+        (4, Came::LandBroke, 2, 4, false, false),
+        (5, Came::LandBroke, 2, 4, false, false),
+        (6, Came::LandBroke, 4, 5, false, true),
+        (7, Came::LandBroke, 4, 5, false, true),
+        (8, Came::Landed, 0, 0, true, true),
     ] {
         let mut disk = empty(alloc)?;
         let mut blobs = attached(alloc, &mut disk)?;
@@ -170,6 +173,7 @@ fn power_loss_in_a_landing(rt: HostRuntime) -> Result<(), Fail> {
         let [first, last] = entry.pages.as_slice() else {
             return Err(Fail::new("no two pages"));
         };
+        assert!(rt; *first < 1024 && *last < 1024);
         let written = [
             Pick {
                 page: DATA + *first,
@@ -183,10 +187,18 @@ fn power_loss_in_a_landing(rt: HostRuntime) -> Result<(), Fail> {
             Pick { page: 4, act: 18 },
             Pick { page: 2, act: 20 },
         ];
+        let Some(picks) = written.get(from..to) else {
+            return Err(Fail::new("no picks"));
+        };
         let inner = fuse.inner();
-        assert!(rt; is_left(alloc, &inner, &[], without)?, "{left}, no picks");
+        let second = if without { Some(new.as_slice()) } else { None };
         assert!(rt;
-            is_left(alloc, &inner, &written[from..to], with)?,
+            is_left(alloc, &inner, &[], &old, second)?,
+            "{left}, no picks"
+        );
+        let second = if with { Some(new.as_slice()) } else { None };
+        assert!(rt;
+            is_left(alloc, &inner, picks, &old, second)?,
             "{left}, all picks"
         );
     }
@@ -198,34 +210,27 @@ fn power_loss_in_a_removal(rt: HostRuntime) -> Result<(), Fail> {
     let alloc = rt.alloc();
     let old = sample(alloc, 5000)?;
     let gone = sample(alloc, 4097)?;
-    let before: &[&[u8]] = &[&gone, &old];
-    let after: &[&[u8]] = &[&old];
     let rows = Pick { page: 5, act: 22 };
     let links = Pick { page: 6, act: 23 };
     let selector = Pick { page: 2, act: 25 };
+    // the last three of each: whether the blob is still there after a restart without picks and with them, and the
+    // pages that are free
     for (left, end, picks, without, with, pages) in [
-        (
-            0,
-            RemoveEnd::Broke,
-            &[rows] as &[Pick],
-            before,
-            before,
-            1020,
-        ),
-        (1, RemoveEnd::Broke, &[rows, links], before, before, 1020),
-        (2, RemoveEnd::Broke, &[rows, links], before, before, 1020),
-        (3, RemoveEnd::Broke, &[selector], before, after, 1020),
-        (4, RemoveEnd::Broke, &[selector], before, after, 1020),
-        (5, RemoveEnd::Removed, &[], after, after, 1022),
+        (0, RemoveEnd::Broke, &[rows] as &[Pick], true, true, 1020),
+        (1, RemoveEnd::Broke, &[rows, links], true, true, 1020),
+        (2, RemoveEnd::Broke, &[rows, links], true, true, 1020),
+        (3, RemoveEnd::Broke, &[selector], true, false, 1020),
+        (4, RemoveEnd::Broke, &[selector], true, false, 1020),
+        (5, RemoveEnd::Removed, &[], false, false, 1022),
     ] {
         let mut disk = empty(alloc)?;
         let mut blobs = attached(alloc, &mut disk)?;
-        assert_eq!(rt; store(alloc, &mut blobs, &mut disk, &gone)?, Came::Landed);
         assert_eq!(rt; store(alloc, &mut blobs, &mut disk, &old)?, Came::Landed);
+        assert_eq!(rt; store(alloc, &mut blobs, &mut disk, &gone)?, Came::Landed);
         assert_eq!(rt; disk.acts(), 22);
         let mut fuse = FuseDisk::make(disk, left);
         assert_eq!(rt;
-            remove(&mut blobs, &mut fuse, &[root_of(&gone)]),
+            remove(&mut blobs, &mut fuse, &[root_for(&gone)]),
             Some(end),
             "{left}"
         );
@@ -233,8 +238,16 @@ fn power_loss_in_a_removal(rt: HostRuntime) -> Result<(), Fail> {
         // only then are the pages free
         assert_eq!(rt; free(alloc, &mut blobs), Some(pages), "{left}");
         let inner = fuse.inner();
-        assert!(rt; is_left(alloc, &inner, &[], without)?, "{left}, no picks");
-        assert!(rt; is_left(alloc, &inner, picks, with)?, "{left}, all picks");
+        let second = if without { Some(gone.as_slice()) } else { None };
+        assert!(rt;
+            is_left(alloc, &inner, &[], &old, second)?,
+            "{left}, no picks"
+        );
+        let second = if with { Some(gone.as_slice()) } else { None };
+        assert!(rt;
+            is_left(alloc, &inner, picks, &old, second)?,
+            "{left}, all picks"
+        );
     }
     Ok(())
 }
@@ -255,11 +268,11 @@ fn no_roots_make_no_call(rt: HostRuntime) -> Result<(), Fail> {
     let mut disk = blown.inner();
     // a root that has no blob is passed over
     assert_eq!(rt;
-        remove(&mut blobs, &mut disk, &[root_of(b"ho")]),
+        remove(&mut blobs, &mut disk, &[root_for(b"ho")]),
         Some(RemoveEnd::Removed)
     );
-    assert!(rt; are_stored(alloc, &blobs, &mut disk, &[b"hi"]));
-    let Some(Ok(draft)) = room(alloc, &mut blobs, root_of(b"ho"), 2) else {
+    assert!(rt; are_stored(alloc, &blobs, &mut disk, b"hi", None));
+    let Some(Ok(draft)) = room(alloc, &mut blobs, root_for(b"ho"), 2) else {
         return Err(Fail::new("no room"));
     };
     assert!(rt; drop_draft(&mut blobs, draft));
