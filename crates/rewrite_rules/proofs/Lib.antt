@@ -1,0 +1,7 @@
+mod Slashes
+mod Entries
+mod Holding
+mod Fitting
+mod Firsts
+mod Routes
+mod Hosting

@@ -1,0 +1,5 @@
+pub mod Rule
+pub mod Content
+pub mod Reading
+pub mod Routing
+pub mod Hosts
