@@ -53,7 +53,7 @@ abbrev pub stock_pages : List Stored → ℕ
 stock_pages [] = 0
 stock_pages (blob ∷ blobs) = pages_of blob.len + stock_pages blobs
 
-abbrev room_pages : Option ℕ → ℕ
+abbrev pub room_pages : Option ℕ → ℕ
 room_pages None = 0
 room_pages (Some len) = pages_of len
 

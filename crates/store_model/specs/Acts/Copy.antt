@@ -17,11 +17,11 @@ abbrev pub area : Geometry → ImageKind → ℕ
 area g Zbi = g.slot_pages * 4096
 area g Vbmeta = VBMETA_PAGES * 4096
 
-abbrev too_large : ℕ → Option ℕ → Option CopyEnd
+abbrev pub too_large : ℕ → Option ℕ → Option CopyEnd
 too_large room None = None
 too_large room (Some len) = if nat_lt room len then Some (TooLarge len room) else None
 
-abbrev copy_end_of : State → ℕ → Found → Option CopyEnd
+abbrev pub copy_end_of : State → ℕ → Found → Option CopyEnd
 copy_end_of s room NotOpen = Some BadDir
 copy_end_of s room NoSuchFile = Some NoFile
 copy_end_of s room file = too_large room (found_len s file)
