@@ -1,3 +1,4 @@
-pub mod Stock
+pub mod Stocks
 pub mod Named
 pub mod Joined
+pub mod EachMarked

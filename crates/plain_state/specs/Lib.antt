@@ -1,1 +1,5 @@
 pub mod Views
+pub mod Marks
+pub mod Stocks
+pub mod Opening
+pub mod FileViews

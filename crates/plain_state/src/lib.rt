@@ -3,9 +3,14 @@
 
 mod blobs;
 mod changes;
+mod files;
+mod marking;
 mod packages;
+mod rest;
+mod room;
 mod state;
 mod turns;
 
-pub use blobs::Blob;
+pub use blobs::{Blob, Stock};
+pub use files::FileAt;
 pub use state::{Standing, State};
