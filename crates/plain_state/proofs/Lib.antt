@@ -8,3 +8,4 @@ pub mod SettledStill
 pub mod SettledLooks
 pub mod Ready
 pub mod ContentsMap
+pub mod Looking

@@ -66,7 +66,7 @@ with_looked_at (pair ∷ seen) books root = first (is_some (book_at books pair.r
 
   first : (known : Bool) → is_some (book_at books pair.root) ≡ known → ((others : Books) → book_at (with_looked others seen) root ≡ first_known (book_at others root) (looked_at seen root))
       → book_at (cond known (with_looked books seen) (with_looked (books ++ record { root = pair.root; meta = Read pair.bytes } ∷ []) seen)) root
-          ≡ first_known (book_at books root) (looked_at (pair ∷ seen) root)
+      ≡ first_known (book_at books root) (looked_at (pair ∷ seen) root)
   first true h later =
       later books
       ∙ more_then books (record { root = pair.root; meta = Read pair.bytes }) root (looked_at seen root) true h

@@ -6,6 +6,7 @@ mod books;
 mod changes;
 mod contents;
 mod laws;
+mod looks;
 mod packages;
 mod settling;
 mod state;
