@@ -2,3 +2,11 @@ pub mod Stocks
 pub mod Named
 pub mod Joined
 pub mod EachMarked
+pub mod Protected
+pub mod Settled
+pub mod SettledActs
+pub mod SettledStill
+pub mod SettledLooks
+pub mod Ready
+pub mod ContentsMap
+pub mod Looking

@@ -3,3 +3,8 @@ pub mod Marks
 pub mod Stocks
 pub mod Opening
 pub mod FileViews
+pub mod Contents
+pub mod Learning
+pub mod Looking
+pub mod Judged
+pub mod Holdings

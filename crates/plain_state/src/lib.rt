@@ -2,15 +2,25 @@
 #![tactic(auto)]
 
 mod blobs;
+mod books;
 mod changes;
+mod contents;
 mod files;
+mod holdings;
+mod laws;
+mod looks;
 mod marking;
 mod packages;
 mod rest;
 mod room;
+mod settling;
 mod state;
 mod turns;
 
 pub use blobs::{Blob, Stock};
+pub use contents::Contents;
 pub use files::FileAt;
+pub use laws::{
+    collections_are_settled, openings_are_settled, still_acts_are_settled, stores_are_ready,
+};
 pub use state::{Standing, State};
