@@ -5,6 +5,7 @@ mod blobs;
 mod books;
 mod changes;
 mod contents;
+mod judging;
 mod laws;
 mod looks;
 mod packages;
@@ -14,6 +15,7 @@ mod turns;
 
 pub use blobs::Blob;
 pub use contents::Contents;
+pub use judging::Activation;
 pub use laws::{
     collections_are_settled, openings_are_settled, still_acts_are_settled, stores_are_ready,
 };
