@@ -10,3 +10,6 @@ pub mod SettledLooks
 pub mod Ready
 pub mod ContentsMap
 pub mod Looking
+pub mod Hands
+pub mod Activating
+pub mod SeenPairs

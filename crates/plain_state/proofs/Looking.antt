@@ -1,7 +1,9 @@
 -- One look after another.
-use Rattle.std.proofs.Common.{◌≡◌, ◌≤◌, ℕ, Bool, true, false, cond, List, [], ◌∷◌, ◌++◌, length, Option, Some, None, is_some, refl, sym, ap, ◌∙◌}
+use Rattle.std.proofs.Common.{◌≡◌, ◌≤◌, ◌<◌, ◌+◌, ℕ, Bool, true, false, cond, ◌&&◌, ◌||◌, not, List, [], ◌∷◌, ◌++◌, length, get_or, take, Option, Some, None, is_some, refl, sym, ap, subst, ◌∙◌}
 use Rattle.std.specs.Prelude.{Result, Ok, Err, OnOk, OnErr}
 use Rattle.std.specs.Option.{option_map}
+use Rattle.std.proofs.lemmas.List.{take_more, map-append}
+use Rattle.std.proofs.lemmas.List.Folds.{list_any-append}
 use Rattle.pkg_names.specs.declared.root.Root.{Root}
 use Rattle.pkg_names.specs.Root.{root_eq}
 use Rattle.pkg_names.proofs.Roots.{root_eq-refl}
@@ -10,13 +12,13 @@ use Rattle.package_book.specs.declared.book.TheConstants.{META_LIMIT}
 use Rattle.package_book.specs.Books.{Meta, book_at}
 use Rattle.package_book.specs.Books.Meta.{Read, Long}
 use Rattle.store_model.specs.declared.events.LookedAt.{LookedAt}
-use Rattle.store_model.specs.State.{State, Stored, stored_len}
+use Rattle.store_model.specs.State.{State, Stored, stored_len, has_root, protected_in}
 use Rattle.store_model.specs.Systems.{seen_bytes}
 use Rattle.store_model.specs.Settling.{IsSeen}
 use Rattle.store_model.proofs.SameBooks.{with_books}
 use Rattle.plain_state.specs.Contents.{AreBytesOf}
-use Rattle.plain_state.specs.Learning.{first_known, looked_at, at_root, Learns}
-use Rattle.plain_state.specs.Looking.{LearnsAll, AreFrom}
+use Rattle.plain_state.specs.Learning.{first_known, looked_at, at_root, Learns, Forgets}
+use Rattle.plain_state.specs.Looking.{LearnsAll, AreFrom, roots_seen}
 
 -- what is looked at last counts where nothing was before
 abbrev pub first_bytes : Option (List ℕ) → Option (List ℕ) → Option (List ℕ)
@@ -73,3 +75,37 @@ seen_from contents (pair ∷ seen) stock all from =
 pub by_end : {V E : Type 0} (r : Result V E) (P A B C D : Type 0) → OnOk r A → OnOk r B → OnErr r C → OnErr r D → (A → B → P) → (C → D → P) → P
 by_end (Ok v) P A B C D a b c d f g = f a b
 by_end (Err e) P A B C D a b c d f g = g c d
+
+-- ---- forgetting one after another
+
+forgets_at : (p q among : Bool) (m : Option Meta) → cond (q && not among) None (cond (p && not among) None m) ≡ cond ((p || q) && not among) None m
+forgets_at true true true m = refl
+forgets_at true true false m = refl
+forgets_at true false true m = refl
+forgets_at true false false m = refl
+forgets_at false true true m = refl
+forgets_at false true false m = refl
+forgets_at false false true m = refl
+forgets_at false false false m = refl
+
+pub forgets_one_more : (roots : List Root) (root : Root) (t u v : State) → Forgets roots t u → Forgets (root ∷ []) u v → Forgets (roots ++ root ∷ []) t v
+forgets_one_more roots root t u v before one = record {
+  rest = one.rest ∙ ap (λ (w : State). with_books w v.books) before.rest;
+  books = λ other.
+      let among : has_root (protected_in u) other ≡ has_root (protected_in t) other = ap (λ (w : State). has_root (protected_in w) other) before.rest in
+      one.books other
+      ∙ ap (λ (test : Bool). cond (has_root (root ∷ []) other && not test) None (book_at u.books other)) among
+      ∙ ap (λ (m : Option Meta). cond (has_root (root ∷ []) other && not (has_root (protected_in t) other)) None m) (before.books other)
+      ∙ forgets_at (has_root roots other) (has_root (root ∷ []) other) (has_root (protected_in t) other) (book_at t.books other)
+      ∙ ap (λ (test : Bool). cond (test && not (has_root (protected_in t) other)) None (book_at t.books other)) (sym (list_any-append (λ (r : Root). root_eq r other) roots (root ∷ [])));
+}
+
+pub forgets_none : (t : State) → Forgets [] t t
+forgets_none t = record { rest = refl; books = λ other. refl }
+
+pub forgets_seen_more : (seen : List LookedAt) (i : ℕ) (pair : LookedAt) (t u v : State) → i < length seen → pair ≡ get_or seen i pair → Forgets (roots_seen (take i seen)) t u → Forgets (pair.root ∷ []) u v
+    → Forgets (roots_seen (take (i + 1) seen)) t v
+forgets_seen_more seen i pair t u v within is before one =
+    subst (λ (roots : List Root). Forgets roots t v)
+    (sym (ap roots_seen (take_more seen i pair within) ∙ map-append (λ (p : LookedAt). p.root) (take i seen) (get_or seen i pair ∷ [])))
+    (forgets_one_more (roots_seen (take i seen)) (get_or seen i pair).root t u v before (subst (λ (p : LookedAt). Forgets (p.root ∷ []) u v) is one))

@@ -7,6 +7,7 @@ mod changes;
 mod contents;
 mod files;
 mod holdings;
+mod judging;
 mod laws;
 mod looks;
 mod marking;
@@ -20,6 +21,7 @@ mod turns;
 pub use blobs::{Blob, Stock};
 pub use contents::Contents;
 pub use files::FileAt;
+pub use judging::Activation;
 pub use laws::{
     collections_are_settled, openings_are_settled, still_acts_are_settled, stores_are_ready,
 };
