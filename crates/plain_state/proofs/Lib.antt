@@ -13,3 +13,4 @@ pub mod Looking
 pub mod Hands
 pub mod Activating
 pub mod SeenPairs
+pub mod HoldingCounts

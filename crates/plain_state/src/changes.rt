@@ -84,12 +84,12 @@ impl State {
             unreachable!()
         };
         self.open_path(number, lane, root)?;
-        self.activate(ticket);
+        self.make_active(ticket);
         Ok(())
     }
 
     // The package of a ticket arrives no longer. It is active under its path, unless that is in the base.
-    fn activate(&mut self, ticket: u64)
+    fn make_active(&mut self, ticket: u64)
         ensures { self.new ≡ record self.old {
           arriving = without_ticket self.old.arriving ticket;
           active = active_after_want self.old ticket wants.Opened;

@@ -5,10 +5,11 @@ ghost use Rattle.std.specs.List.{All};
 ghost use Rattle.store_model.specs.declared.ends.WantEnd.TheVariants as wants;
 ghost use Rattle.store_model.specs.State.{arrival_of};
 ghost use Rattle.store_model.specs.Acts.Want.{next_want};
-ghost use Rattle.plain_state.specs.Holdings.{ends_due};
+ghost use Rattle.plain_state.specs.Holdings.{ends_due, stage_ends};
 ghost use Rattle.plain_state.specs.Learning.{IsReady, IsSettled};
 
 use crate::state::State;
+use crate::turns::Turn;
 use std::alloc::AllocError;
 
 impl State {
@@ -16,13 +17,13 @@ impl State {
     pub fn ends_due(&self) -> usize
         ensures { result ≡ min (ends_due self.now) (2 ^ 64 - 1) }
     {
-        let stages: usize = if self.stage.is_some() { 1 } else { 0 };
-        self.queue
-            .claims()
-            .len()
-            .saturating_add(self.indexes.arriving().len())
-            .saturating_add(self.dirs.entries().len())
-            .saturating_add(stages)
+        let claims = self.queue.claims().len();
+        let tickets = self.indexes.arriving().len();
+        let dirs = self.dirs.entries().len();
+        claims
+            .saturating_add(tickets)
+            .saturating_add(dirs)
+            .saturating_add(stages(&self.stage))
     }
 
     /// The package of a ticket is opened as a directory with a new number, and takes the place of the active
@@ -40,5 +41,14 @@ impl State {
             self.forget(&root);
         }
         Ok(())
+    }
+}
+
+fn stages(stage: &Option<Turn>) -> usize
+    ensures { result ≡ stage_ends stage.now }
+{
+    match stage {
+        Some(_) => 1,
+        None => 0,
     }
 }

@@ -5,7 +5,7 @@ use Rattle.store_model.specs.State.{State, Arrival, without_ticket}
 use Rattle.store_model.specs.Acts.Want.{active_after_want}
 use Rattle.plain_state.specs.contracts.state.State.{the_view}
 use Rattle.plain_state.proofs.Joined.{joined_without, marked_without, activated_same}
-use Rattle.plain_state.proofs.state.State.activate.Goals as goal
+use Rattle.plain_state.proofs.state.State.make_active.Goals as goal
 
 pub invariant_of-self : goal.invariant_of-self
 invariant_of-self c =
