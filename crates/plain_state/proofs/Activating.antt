@@ -30,23 +30,24 @@ use Rattle.plain_state.specs.Judged.{after_verdict}
 use Rattle.plain_state.proofs.Settled.{IsThere, Turns, settles}
 
 never : {P : Type 0} {b : Bool} → b ≡ true → b ≡ false → P
-never yes no = absurd (true≢false (sym yes ∙ no))
+never holds lacks = absurd (true≢false (sym holds ∙ lacks))
 
 -- what was looked at is stored, and is among what is forgotten again
 pub seen_stored : (seen : List LookedAt) (stock : List Stored) (root : Root) → IsSeen seen stock → is_some (seen_bytes seen root) ≡ true → is_stored stock root ≡ true
 seen_stored [] stock root all found = absurd cc
-seen_stored (pair ∷ seen) stock root all found = first (root_eq pair.root root) refl found where
-  first : (test : Bool) → root_eq pair.root root ≡ test → is_some (cond test (Some pair.bytes) (seen_bytes seen root)) ≡ true → is_stored stock root ≡ true
-  first true same e =
-      ap (is_stored stock) (sym (root_eq-true pair.root root same)) ∙ ap (λ (o : Option ℕ). is_some o) all.1
-  first false differs e = seen_stored seen stock root all.3 e
+seen_stored (pair ∷ seen) stock root all found =
+    elim (cases_Bool (root_eq pair.root root)) [
+      | inl same ↦ ap (is_stored stock) (sym (root_eq-true pair.root root same)) ∙ ap (λ (o : Option ℕ). is_some o) all.1
+      | inr differs ↦ seen_stored seen stock root all.3 (rw differs at found)
+    ]
 
 pub seen_rooted : (seen : List LookedAt) (root : Root) → is_some (seen_bytes seen root) ≡ true → has_root (roots_seen seen) root ≡ true
 seen_rooted [] root found = absurd cc
-seen_rooted (pair ∷ seen) root found = first (root_eq pair.root root) refl found where
-  first : (test : Bool) → root_eq pair.root root ≡ test → is_some (cond test (Some pair.bytes) (seen_bytes seen root)) ≡ true → has_root (roots_seen (pair ∷ seen)) root ≡ true
-  first true same e = or_left (root_eq pair.root root) (has_root (roots_seen seen) root) same
-  first false differs e = or_right (root_eq pair.root root) (has_root (roots_seen seen) root) (seen_rooted seen root e)
+seen_rooted (pair ∷ seen) root found =
+    elim (cases_Bool (root_eq pair.root root)) [
+      | inl same ↦ or_left (root_eq pair.root root) (has_root (roots_seen seen) root) same
+      | inr differs ↦ or_right (root_eq pair.root root) (has_root (roots_seen seen) root) (seen_rooted seen root (rw differs at found))
+    ]
 
 -- an act that leaves the stock and what is protected, and looked at blobs that are stored
 pub settles_looked : (seen : List LookedAt) (t n new : State) → IsReady t → IsSeen seen t.stock → n.books ≡ t.books → n.stock ≡ t.stock → ((root : Root) → has_root (protected_in n) root ≡ has_root (protected_in t) root)

@@ -12,12 +12,12 @@ use Rattle.plain_state.proofs.state.State.activate.Goals as goal
 
 pub returns-in-Ok-clause-due : goal.returns-in-Ok-clause-due
 returns-in-Ok-clause-due c =
-    subst (λ (seen : List LookedAt). IsDueActivate c.args.self.now c.args.lane seen c.take_verdict.result) (sym c.make.ensures.list)
+    subst (λ (seen : List LookedAt). IsDueActivate c.args.self.now c.args.lane seen c.take_verdict-reply.result) (sym c.make.ensures.list)
     (record {
       sys = c.args.sys;
       stage = c.requires.stage;
-      answer = answered c.args.self.now c.judge_staged.new.self c.judge_staged.new.seen.items c.args.sys (verdict_of c.in-Ok.judgement) c.take_verdict.result c.judge_staged.ensures.learns c.in-Ok.ensures.verdict
-          c.take_verdict.ensures.answer;
+      answer = answered c.args.self.now c.judge_staged.new.self c.judge_staged.new.seen.items c.args.sys (verdict_of c.in-Ok.judgement) c.take_verdict-reply.result c.judge_staged.ensures.learns c.in-Ok.ensures.verdict
+          c.take_verdict-reply.ensures.answer;
     })
 
 pub returns-in-Ok-clause-seen : goal.returns-in-Ok-clause-seen
@@ -27,14 +27,14 @@ returns-in-Ok-clause-seen c =
 
 pub returns-in-Ok-clause-settled : goal.returns-in-Ok-clause-settled
 returns-in-Ok-clause-settled c =
-    subst (λ (seen : List LookedAt). IsSettled seen (next_activate c.args.self.now c.args.lane seen c.take_verdict.result) c.forget_seen.new.self) (sym c.make.ensures.list)
-    (activated_by c.args.self.now c.judge_staged.new.self c.take_verdict.new.self c.forget_seen.new.self c.args.lane c.judge_staged.new.seen.items c.args.sys (verdict_of c.in-Ok.judgement) c.take_verdict.result
+    subst (λ (seen : List LookedAt). IsSettled seen (next_activate c.args.self.now c.args.lane seen c.take_verdict-reply.result) c.forget_seen.new.self) (sym c.make.ensures.list)
+    (activated_by c.args.self.now c.judge_staged.new.self c.take_verdict-reply.new.self c.forget_seen.new.self c.args.lane c.judge_staged.new.seen.items c.args.sys (verdict_of c.in-Ok.judgement) c.take_verdict-reply.result
     c.requires.ready (seen_from c.args.contents.now c.judge_staged.new.seen.items c.args.self.now.stock c.requires.bytes c.judge_staged.ensures.from) c.requires.stage c.judge_staged.ensures.learns c.in-Ok.ensures.verdict
-    c.take_verdict.ensures.state c.take_verdict.ensures.answer
-    (subst (λ (seen : List LookedAt). Forgets (roots_seen seen) c.take_verdict.new.self c.forget_seen.new.self) c.deref.ensures.value c.forget_seen.ensures))
+    c.take_verdict-reply.ensures.state c.take_verdict-reply.ensures.answer
+    (subst (λ (seen : List LookedAt). Forgets (roots_seen seen) c.take_verdict-reply.new.self c.forget_seen.new.self) c.deref.ensures.value c.forget_seen.ensures))
 
 pub returns-in-Err-clause-err : goal.returns-in-Err-clause-err
 returns-in-Err-clause-err c =
-    restored c.args.self.now c.judge_staged.new.self c.forget_seen.new.self c.judge_staged.new.seen.items c.requires.ready
+    restored c.args.self.now c.judge_staged.new.self c.forget_seen-in-Err.new.self c.judge_staged.new.seen.items c.requires.ready
     (seen_from c.args.contents.now c.judge_staged.new.seen.items c.args.self.now.stock c.requires.bytes c.judge_staged.ensures.from) c.judge_staged.ensures.learns
-    (subst (λ (seen : List LookedAt). Forgets (roots_seen seen) c.judge_staged.new.self c.forget_seen.new.self) c.deref.ensures.value c.forget_seen.ensures)
+    (subst (λ (seen : List LookedAt). Forgets (roots_seen seen) c.judge_staged.new.self c.forget_seen-in-Err.new.self) c.deref-in-Err.ensures.value c.forget_seen-in-Err.ensures)
