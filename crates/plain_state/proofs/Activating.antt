@@ -1,7 +1,7 @@
 -- The activation of a sealed system leaves the books settled, once they have forgotten what was looked at.
 use Rattle.std.proofs.Common.{◌≡◌, ℕ, Bool, true, false, cond, not, ◌&&◌, List, [], ◌∷◌, Option, Some, None, is_some, inl, inr, refl, sym, ap, subst, ◌∙◌, length}
 use Rattle.std.specs.Option.{option_map}
-use Rattle.std.proofs.lemmas.Bool.{cases_Bool, true≢false, or_left, or_right, and_from, not_from_false}
+use Rattle.std.proofs.lemmas.Bool.{cases_Bool, true≢false, or_left, or_right, and_from, and_right, not_from_true, not_from_false}
 use Rattle.pkg_names.specs.declared.root.Root.{Root}
 use Rattle.pkg_names.specs.declared.pinned.Pinned.{Pinned}
 use Rattle.pkg_names.specs.Root.{root_eq}
@@ -19,33 +19,35 @@ use Rattle.store_model.specs.declared.ends.ActivateEnd.{ActivateEnd}
 use Rattle.store_model.specs.declared.ends.ActivateEnd.TheVariants.{Active, BaseMissing, NotASystem, DiskRead, Rotten}
 use Rattle.store_model.specs.State.{State, Stored, Phase, Stage, IsStageOf, stored_len, is_stored, has_root, protected_in, other_slot, with_sys}
 use Rattle.store_model.specs.State.Phase.{Sealed, Done}
+use Rattle.store_model.specs.Mirrors.{Mirrors}
 use Rattle.store_model.specs.Settling.{IsSeen}
 use Rattle.store_model.specs.Systems.{seen_bytes, staged_verdict, base_of}
 use Rattle.store_model.specs.Acts.Activate.{IsAnswerTo, activated, activated_at, next_activate}
 use Rattle.store_model.proofs.SameBooks.{with_books}
-use Rattle.plain_state.specs.Learning.{first_known, looked_at, IsReady, IsSettled}
-use Rattle.plain_state.specs.Looking.{roots_seen}
+use Rattle.plain_state.specs.Learning.{first_known, looked_at, Forgets, IsReady, IsSettled}
+use Rattle.plain_state.specs.Looking.{LearnsAll, roots_seen}
 use Rattle.plain_state.specs.Judged.{after_verdict}
 use Rattle.plain_state.proofs.Settled.{IsThere, Turns, settles}
 
 never : {P : Type 0} {b : Bool} → b ≡ true → b ≡ false → P
-never yes no = absurd (true≢false (sym yes ∙ no))
+never holds lacks = absurd (true≢false (sym holds ∙ lacks))
 
 -- what was looked at is stored, and is among what is forgotten again
 pub seen_stored : (seen : List LookedAt) (stock : List Stored) (root : Root) → IsSeen seen stock → is_some (seen_bytes seen root) ≡ true → is_stored stock root ≡ true
 seen_stored [] stock root all found = absurd cc
-seen_stored (pair ∷ seen) stock root all found = first (root_eq pair.root root) refl found where
-  first : (test : Bool) → root_eq pair.root root ≡ test → is_some (cond test (Some pair.bytes) (seen_bytes seen root)) ≡ true → is_stored stock root ≡ true
-  first true same e =
-      ap (is_stored stock) (sym (root_eq-true pair.root root same)) ∙ ap (λ (o : Option ℕ). is_some o) all.1
-  first false differs e = seen_stored seen stock root all.3 e
+seen_stored (pair ∷ seen) stock root all found =
+    elim (cases_Bool (root_eq pair.root root)) [
+      | inl same ↦ ap (is_stored stock) (sym (root_eq-true pair.root root same)) ∙ ap (λ (o : Option ℕ). is_some o) all.1
+      | inr differs ↦ seen_stored seen stock root all.3 (rw differs at found)
+    ]
 
 pub seen_rooted : (seen : List LookedAt) (root : Root) → is_some (seen_bytes seen root) ≡ true → has_root (roots_seen seen) root ≡ true
 seen_rooted [] root found = absurd cc
-seen_rooted (pair ∷ seen) root found = first (root_eq pair.root root) refl found where
-  first : (test : Bool) → root_eq pair.root root ≡ test → is_some (cond test (Some pair.bytes) (seen_bytes seen root)) ≡ true → has_root (roots_seen (pair ∷ seen)) root ≡ true
-  first true same e = or_left (root_eq pair.root root) (has_root (roots_seen seen) root) same
-  first false differs e = or_right (root_eq pair.root root) (has_root (roots_seen seen) root) (seen_rooted seen root e)
+seen_rooted (pair ∷ seen) root found =
+    elim (cases_Bool (root_eq pair.root root)) [
+      | inl same ↦ or_left (root_eq pair.root root) (has_root (roots_seen seen) root) same
+      | inr differs ↦ or_right (root_eq pair.root root) (has_root (roots_seen seen) root) (seen_rooted seen root (rw differs at found))
+    ]
 
 -- an act that leaves the stock and what is protected, and looked at blobs that are stored
 pub settles_looked : (seen : List LookedAt) (t n new : State) → IsReady t → IsSeen seen t.stock → n.books ≡ t.books → n.stock ≡ t.stock → ((root : Root) → has_root (protected_in n) root ≡ has_root (protected_in t) root)
@@ -157,3 +159,63 @@ activates t lane seen sys reply new h all stage answer rest left =
     settles_looked seen t (after_verdict t lane sys verdict) new h all (verdict_books t lane sys verdict) (verdict_stock t lane sys verdict)
     (λ root. ap (λ (roots : List Root). has_root roots root) (verdict_protected t lane sys verdict)) rest
     (λ root. left root ∙ ap (λ (roots : List Root). cond (has_root (roots_seen seen) root && not (has_root roots root)) None (first_known (book_at t.books root) (looked_at seen root))) (sym (verdict_protected t lane sys verdict))))
+
+answer_back : (t : State) (books : Books) (verdict : Verdict) (reply : ActivateEnd) → IsAnswerTo (with_books t books) verdict reply → IsAnswerTo t verdict reply
+answer_back t books verdict (Active slot) h = h
+answer_back t books verdict (BaseMissing root) h = h
+answer_back t books verdict (NotASystem why) h = h
+answer_back t books verdict DiskRead h = h
+answer_back t books verdict (Rotten root got) h = h
+
+pub answered : (t u : State) (seen : List LookedAt) (sys : Sys) (verdict : Verdict) (reply : ActivateEnd) → LearnsAll seen t u → verdict ≡ staged_verdict t seen sys → IsAnswerTo u verdict reply → IsAnswerTo t (staged_verdict t seen sys) reply
+answered t u seen sys verdict reply learned is answer =
+    subst (λ (v : Verdict). IsAnswerTo t v reply) is (answer_back t u.books verdict reply (subst (λ (s : State). IsAnswerTo s verdict reply) learned.rest answer))
+
+-- with what the store learned and forgot
+pub activated_by : (t u v w : State) (lane : ℕ) (seen : List LookedAt) (sys : Sys) (verdict : Verdict) (reply : ActivateEnd) → IsReady t → IsSeen seen t.stock → IsStageOf t lane (Sealed sys) → LearnsAll seen t u
+    → verdict ≡ staged_verdict t seen sys → v ≡ after_verdict u lane sys verdict → IsAnswerTo u verdict reply → Forgets (roots_seen seen) v w → IsSettled seen (next_activate t lane seen reply) w
+activated_by t u v w lane seen sys verdict reply h all stage learned is after answer forgets =
+    let v_is : v ≡ with_books (after_verdict t lane sys verdict) u.books =
+    after ∙ ap (λ (s : State). after_verdict s lane sys verdict) learned.rest ∙ verdict_with t u.books lane sys verdict in
+    let among : protected_in v ≡ protected_in t = ap protected_in v_is ∙ verdict_protected t lane sys verdict in
+    activates t lane seen sys reply w h all stage (answered t u seen sys verdict reply learned is answer)
+    (forgets.rest ∙ ap (λ (s : State). with_books s w.books) v_is ∙ ap (λ (vd : Verdict). with_books (after_verdict t lane sys vd) w.books) is)
+    (λ root.
+    forgets.books root
+    ∙ ap (λ (roots : List Root). cond (has_root (roots_seen seen) root && not (has_root roots root)) None (book_at v.books root)) among
+    ∙ ap (λ (m : Option Meta). cond (has_root (roots_seen seen) root && not (has_root (protected_in t) root)) None m)
+    (ap (λ (s : State). book_at s.books root) v_is ∙ learned.books root))
+
+none_both : (test : Bool) → cond test (let none : Option Meta = None in none) None ≡ None
+none_both true = refl
+none_both false = refl
+
+-- and where it gave up
+pub restored : (t u w : State) (seen : List LookedAt) → IsReady t → IsSeen seen t.stock → LearnsAll seen t u → Forgets (roots_seen seen) u w → Mirrors t w
+restored t u w seen h all learned forgets = record {
+  rest = forgets.rest ∙ ap (λ (s : State). with_books s w.books) learned.rest;
+  books = λ root.
+      sym (forgets.books root
+      ∙ ap (λ (s : State). cond (has_root (roots_seen seen) root && not (has_root (protected_in s) root)) None (book_at u.books root)) learned.rest
+      ∙ ap (λ (m : Option Meta). cond (has_root (roots_seen seen) root && not (has_root (protected_in t) root)) None m) (learned.books root)
+      ∙ first root (book_at t.books root) refl (seen_bytes seen root) refl);
+} where
+  first : (root : Root) (known : Option Meta) → book_at t.books root ≡ known → (found : Option (List ℕ)) → seen_bytes seen root ≡ found
+      → cond (has_root (roots_seen seen) root && not (has_root (protected_in t) root)) None (first_known known (option_map Read found)) ≡ known
+  first root (Some meta) e found at =
+      let known : is_some (book_at t.books root) ≡ true = ap (λ (m : Option Meta). is_some m) e in
+      let stays : (has_root (roots_seen seen) root && not (has_root (protected_in t) root)) ≡ false =
+      and_right (has_root (roots_seen seen) root) (not (has_root (protected_in t) root)) (not_from_true (has_root (protected_in t) root) (h.books.among root known)) in
+      rw stays refl
+  first root None e None at = none_both (has_root (roots_seen seen) root && not (has_root (protected_in t) root))
+  first root None e (Some bytes) at =
+      let found : is_some (seen_bytes seen root) ≡ true = ap (λ (o : Option (List ℕ)). is_some o) at in
+      let unknown : is_some (book_at t.books root) ≡ false = ap (λ (m : Option Meta). is_some m) e in
+      let passed : has_root (protected_in t) root ≡ false =
+      elim (cases_Bool (has_root (protected_in t) root)) [
+        | inl among ↦ never (h.books.all root among (seen_stored seen t.stock root all found)) unknown
+        | inr passed ↦ passed
+      ] in
+      let goes : (has_root (roots_seen seen) root && not (has_root (protected_in t) root)) ≡ true =
+      and_from (has_root (roots_seen seen) root) (not (has_root (protected_in t) root)) (seen_rooted seen root found) (not_from_false (has_root (protected_in t) root) passed) in
+      rw goes refl

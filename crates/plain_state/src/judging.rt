@@ -148,16 +148,20 @@ impl State {
         ensures err { OnErr result (Mirrors self.old self.new) }
     {
         let mut seen = Vec::new(self.alloc);
-        let judged = self.judge_staged(&sys, contents, &mut seen);
-        let reply = match judged {
-            Ok(judgement) => Ok(self.take_verdict(lane, sys, judgement)),
-            Err(fault) => Err(fault),
-        };
-        self.forget_seen(&seen);
-        Ok(Activation {
-            reply: reply?,
-            seen: Items::make(seen),
-        })
+        match self.judge_staged(&sys, contents, &mut seen) {
+            Ok(judgement) => {
+                let reply = self.take_verdict(lane, sys, judgement);
+                self.forget_seen(&seen);
+                Ok(Activation {
+                    reply,
+                    seen: Items::make(seen),
+                })
+            }
+            Err(fault) => {
+                self.forget_seen(&seen);
+                Err(fault)
+            }
+        }
     }
 
     // Looks at the two lists of the system, and judges it by what is retained.

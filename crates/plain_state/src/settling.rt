@@ -89,7 +89,8 @@ impl State {
         }
     }
 
-    /// A blob is stored whose bytes are whole. Takes the bytes, where its package is protected and not too long to be read.
+    /// A blob is stored whose bytes are whole. Takes the bytes, where its package is protected and isn't too
+    /// long to be read.
     pub fn store(&mut self, root: Root, len: u64, meta: Option<Bytes>) -> Result<(), AllocError>
         requires ready { IsReady self.old }
         requires missing { is_stored self.old.stock root ≡ false }

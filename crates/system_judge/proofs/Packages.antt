@@ -15,7 +15,7 @@ three (Some a) b c faults rest = refl
 -- what is wrong with this package comes before what is wrong with later ones
 pub one_package : (at : AtHand) (base : List Pinned) (i : ℕ) (d : Pinned) → i < length base → (rest : Verdict)
     → first_of (base_faults at (drop i base)) rest
-        ≡ first_of (absent at (get_or base i d).root ∷ no_book at (BadBase (get_or base i d).root) (get_or base i d).root ∷ missing_name at (get_or base i d).root ∷ []) (first_of (base_faults at (drop (i + 1) base)) rest)
+    ≡ first_of (absent at (get_or base i d).root ∷ no_book at (BadBase (get_or base i d).root) (get_or base i d).root ∷ missing_name at (get_or base i d).root ∷ []) (first_of (base_faults at (drop (i + 1) base)) rest)
 one_package at base i d within rest =
     rw (add-one, drop-cons base i d)
     (three (absent at (get_or base i d).root) (no_book at (BadBase (get_or base i d).root) (get_or base i d).root) (missing_name at (get_or base i d).root) (base_faults at (drop (suc i) base)) rest)
