@@ -84,6 +84,13 @@ impl Queue {
         self.claims.retain(|claim| claim.root != *root);
     }
 
+    /// The claims, in the order in which they came.
+    pub fn claims(&self) -> &[ClaimEntry]
+        ensures { result.now ≡ self.now.claims }
+    {
+        &self.claims
+    }
+
     /// The first of the wanted roots that nobody has claimed.
     pub fn first_unclaimed(&self, wanted: &[Root]) -> Option<Root>
         ensures first { result ≡ first_unclaimed self.now.claims wanted.now }

@@ -1,5 +1,5 @@
 -- The packages that arrive, each with its mark.
-use Rattle.std.proofs.Common.{◌≢◌, All, ◌≡◌, inl, inr, ℕ, Bool, true, false, not, List, [], ◌∷◌, ◌++◌, map, filter, Option, Some, None, refl, sym, ap, ap₂, ◌∙◌}
+use Rattle.std.proofs.Common.{◌≢◌, All, ◌≡◌, inl, inr, ℕ, Bool, true, false, cond, not, List, [], ◌∷◌, ◌++◌, map, filter, Option, Some, None, is_some, refl, sym, ap, ap₂, ◌∙◌}
 use Rattle.std.specs.Prelude.{find, ◌==◌, option_and_then}
 use Rattle.std.specs.Option.{option_map}
 use Rattle.std.proofs.lemmas.Bool.{cases_Bool, eq-eqb, ne_eqb}
@@ -16,7 +16,9 @@ use Rattle.store_model.specs.Acts.Want.{with_directory, with_active, answer_for,
 use Rattle.store_model.specs.Packages.{known_fault, is_complete}
 use Rattle.package_book.specs.declared.fault.PackageFault.{PackageFault}
 use Rattle.pkg_names.specs.declared.root.Root.{Root}
+use Rattle.package_indexes.specs.Indexes.{root_at}
 use Rattle.plain_state.specs.Views.{joined, AreMarked, with_mark}
+use Rattle.plain_state.specs.Opening.{replaced_by, replaced}
 
 -- the package of a ticket, and its mark
 pub joined_find : (arriving : List Arriving) (marks : List MarkEntry) (ticket : ℕ) → AreMarked arriving marks
@@ -147,3 +149,26 @@ pub activated_same : (base active : List Pinned) (arriving : List Arriving) (mar
     → activated base active (arriving_with arriving ticket) ≡ with_active base active (arrival_of (joined arriving marks) ticket)
 activated_same base active arriving marks ticket h =
     active_same base active (mark_of marks ticket) (arriving_with arriving ticket) ∙ ap (with_active base active) (sym (joined_find arriving marks ticket h))
+
+-- ---- the packages that are protected, and what an opening replaces
+
+pub joined_roots : (arriving : List Arriving) (marks : List MarkEntry) → AreMarked arriving marks
+    → map (λ (a : Arriving). a.root) arriving ≡ map (λ (a : Arrival). a.root) (joined arriving marks)
+joined_roots [] marks h = refl
+joined_roots (a ∷ arriving) [] h = absurd h
+joined_roots (a ∷ arriving) (m ∷ marks) h = ap (λ (rest : List Root). a.root ∷ rest) (joined_roots arriving marks h.1)
+
+-- what the opening of a package that arrives replaces
+abbrev pub replaced_from : State → Option Arriving → Option Root
+replaced_from s None = None
+replaced_from s (Some a) = cond (is_some (root_at s.base a.path)) None (root_at s.active a.path)
+
+pub replaced_at : (s : State) (arriving : List Arriving) (marks : List MarkEntry) (ticket : ℕ) → AreMarked arriving marks → s.arriving ≡ joined arriving marks
+    → replaced s ticket ≡ replaced_from s (arriving_with arriving ticket)
+replaced_at s arriving marks ticket marked is_joined =
+    ap (λ (arrivals : List Arrival). replaced_by s (arrival_of arrivals ticket)) is_joined
+    ∙ ap (replaced_by s) (joined_find arriving marks ticket marked)
+    ∙ last (arriving_with arriving ticket) where
+      last : (at : Option Arriving) → replaced_by s (option_map (with_mark (mark_of marks ticket)) at) ≡ replaced_from s at
+      last None = refl
+      last (Some a) = refl

@@ -1,6 +1,7 @@
-pub mod Stock
+pub mod Stocks
 pub mod Named
 pub mod Joined
+pub mod EachMarked
 pub mod Protected
 pub mod Settled
 pub mod SettledActs
@@ -8,3 +9,8 @@ pub mod SettledStill
 pub mod SettledLooks
 pub mod Ready
 pub mod ContentsMap
+pub mod Looking
+pub mod Hands
+pub mod Activating
+pub mod SeenPairs
+pub mod HoldingCounts

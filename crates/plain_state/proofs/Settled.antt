@@ -66,7 +66,7 @@ with_looked_at (pair ∷ seen) books root = first (is_some (book_at books pair.r
 
   first : (known : Bool) → is_some (book_at books pair.root) ≡ known → ((others : Books) → book_at (with_looked others seen) root ≡ first_known (book_at others root) (looked_at seen root))
       → book_at (cond known (with_looked books seen) (with_looked (books ++ record { root = pair.root; meta = Read pair.bytes } ∷ []) seen)) root
-          ≡ first_known (book_at books root) (looked_at (pair ∷ seen) root)
+      ≡ first_known (book_at books root) (looked_at (pair ∷ seen) root)
   first true h later =
       later books
       ∙ more_then books (record { root = pair.root; meta = Read pair.bytes }) root (looked_at seen root) true h
@@ -119,7 +119,7 @@ stored_long (blob ∷ stock) root len at long = first (root_eq blob.root root) a
   first false e later = later e
 
 -- where the event tells something of a root, the books learn just that
-abbrev learnt_at : List LookedAt → List Stored → Root → Option Meta
+abbrev pub learnt_at : List LookedAt → List Stored → Root → Option Meta
 learnt_at seen stock root = first_known (looked_at seen root) (long_at stock root)
 
 learnt_is_told : (seen : List LookedAt) (stock : List Stored) (root : Root) → is_some (told_at seen stock root) ≡ true → learnt_at seen stock root ≡ told_at seen stock root
@@ -135,7 +135,7 @@ learnt_is_told seen stock root told = first (looked_at seen root) told where
   first (Some meta) e = refl
   first None e = second (stored_len stock root) refl e
 
-looked_books_at : (seen : List LookedAt) (s : State) (root : Root) → book_at (looked_books seen s) root ≡ first_known (book_at s.books root) (learnt_at seen s.stock root)
+pub looked_books_at : (seen : List LookedAt) (s : State) (root : Root) → book_at (looked_books seen s) root ≡ first_known (book_at s.books root) (learnt_at seen s.stock root)
 looked_books_at seen s root =
     with_long_at s.stock (with_looked s.books seen) root
     ∙ ap (λ (m : Option Meta). first_known m (long_at s.stock root)) (with_looked_at seen s.books root)

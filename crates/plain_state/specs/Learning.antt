@@ -28,7 +28,8 @@ at_root root learned other = if root_eq root other then learned else None
 -- the books learn this of a package, unless they know it
 pub record Learns (root : Root) (learned : Option Meta) (old new : State) : Type 0 where
   pub rest : new ≡ record old { books = new.books }
-  pub books : (other : Root) → book_at new.books other ≡ first_known (book_at old.books other) (at_root root learned other)
+  pub books : (other : Root) → book_at new.books other
+      ≡ first_known (book_at old.books other) (at_root root learned other)
 
 -- they forget one package
 pub record Unlearns (root : Root) (old new : State) : Type 0 where
@@ -63,11 +64,6 @@ told_at seen stock root = first_known (looked_at seen root) (long_of (stored_len
 abbrev pub told_of : List Root → List LookedAt → List Stored → Root → Option Meta
 told_of roots seen stock root = if has_root roots root then told_at seen stock root else None
 
--- the books learn what the event tells of these packages, unless they know them
-pub record AreLearned (roots : List Root) (seen : List LookedAt) (old new : State) : Type 0 where
-  pub rest : new ≡ record old { books = new.books }
-  pub books : (other : Root) → book_at new.books other ≡ first_known (book_at old.books other) (told_of roots seen old.stock other)
-
 -- what is read of a package that is to be learned, as the event tells it
 abbrev pub seen_of : Root → Option (List ℕ) → List LookedAt
 seen_of root None = []
@@ -78,7 +74,8 @@ abbrev pub listed : Option Root → List Root
 listed None = []
 listed (Some root) = root ∷ []
 
--- What each call rests on: the books know exactly what is protected and stored, and no ticket and no directory stands twice.
+-- What each call rests on: the books know exactly what is protected and stored, and no ticket and no
+-- directory stands twice.
 pub record IsReady (s : State) : Type 0 where
   pub books : KnowsExactly s.books (protected_in s) s.stock
   pub tickets : AllPairs (λ (a b : Arrival). a.ticket ≢ b.ticket) s.arriving
@@ -87,4 +84,5 @@ pub record IsReady (s : State) : Type 0 where
 -- the root that is active under the package's path until it is opened
 abbrev pub replaced_by : State → Option Arrival → List Root
 replaced_by s None = []
-replaced_by s (Some arrival) = if is_some (root_at s.base arrival.path) then [] else listed (root_at s.active arrival.path)
+replaced_by s (Some arrival) =
+    if is_some (root_at s.base arrival.path) then [] else listed (root_at s.active arrival.path)

@@ -1,10 +1,16 @@
 //! The stored blobs: their roots and lengths.
 
-ghost use Rattle.std.specs.Prelude.{◌≡◌, find, is_some, option_copied};
+ghost use Rattle.std.specs.Prelude.{◌≡◌, ◌-◌, ◌^◌, [], ◌∷◌, ◌++◌, length, min, map, filter, Some, None, is_some, IfOk, OnOk, OnErr, if◌then◌else◌};
+ghost use Rattle.std.specs.BTreeMap.{get};
+ghost use Rattle.pkg_names.specs.declared.root.Root.{Root as RootOf};
 ghost use Rattle.pkg_names.specs.Root.{root_eq};
-ghost use Rattle.store_model.specs.State.{Stored, stored_len, is_stored, without_blobs, has_root};
+ghost use Rattle.store_model.specs.State.{Stored, stored_len, is_stored, stock_roots, without_blobs, has_root};
+ghost use Rattle.store_model.specs.Packages.{pages_of, stock_pages};
+ghost use Rattle.plain_state.specs.Stocks.{root_cmp, first_len};
 
 use pkg_names::Root;
+use std::alloc::{AllocError, Global};
+use std::collections::BTreeMap;
 use std::marker::Model;
 
 /// A blob that is stored.
@@ -23,7 +29,7 @@ impl Model for Blob {
 }
 
 impl Blob {
-    pub fn make(root: Root, len: u64) -> Blob
+    fn make(root: Root, len: u64) -> Blob
         ensures { result ≡ record { root = root; len = len } }
     {
         Blob { root, len }
@@ -42,37 +48,141 @@ impl Blob {
     }
 }
 
-fn blob_of<'a>(stock: &'a [Blob], root: &Root) -> Option<&'a Blob>
-    ensures { option_copied result ≡ find (λ (blob : Stored). root_eq blob.root root.now) stock.now }
-{
-    stock.iter().find(|blob| blob.root == *root)
+/// The stored blobs. Contracts see the model's list, in the order in which they came.
+#[derive(Drop)]
+pub struct Stock {
+    blobs: Vec<Blob>,
+    // The first length of each root.
+    lens: BTreeMap<Root, u64>,
+    // How many pages they have together. It stands still at its last value.
+    pages: u64,
 }
 
-// The length of a stored blob.
-pub(crate) fn stored_len(stock: &[Blob], root: &Root) -> Option<u64>
-    ensures { result ≡ stored_len stock.now root.now }
-{
-    match blob_of(stock, root) {
-        Some(blob) => Some(blob.len()),
-        None => None,
+impl Model for Stock {
+    ghost use Rattle.std.specs.Prelude.{List};
+    ghost use Rattle.store_model.specs.State.{Stored};
+    ghost use Rattle.plain_state.specs.Stocks.{IsStock};
+
+    ghost Value = { List Stored };
+
+    ghost view = { λ s. s.blobs.items };
+
+    ghost invariant = { λ s. IsStock s.blobs.items s.lens s.pages };
+}
+
+impl Stock {
+    /// Nothing is stored.
+    pub fn new(alloc: Global) -> Stock
+        ensures { result ≡ [] }
+    {
+        Stock {
+            blobs: Vec::new(alloc),
+            lens: BTreeMap::new(alloc),
+            pages: 0,
+        }
+    }
+
+    /// The blobs, in the order in which they came.
+    pub fn blobs(&self) -> &[Blob]
+        ensures { result.now ≡ self.now }
+    {
+        &self.blobs
+    }
+
+    /// How many pages the blobs have together.
+    pub fn pages(&self) -> u64
+        ensures { result ≡ min (stock_pages self.now) (2 ^ 64 - 1) }
+    {
+        self.pages
+    }
+
+    /// The length of a stored blob.
+    pub fn len_of(&self, root: &Root) -> Option<u64>
+        ensures { result ≡ stored_len self.now root.now }
+    {
+        self.lens.get(root).copied()
+    }
+
+    pub fn is_stored(&self, root: &Root) -> bool
+        ensures { result ≡ is_stored self.now root.now }
+    {
+        self.len_of(root).is_some()
+    }
+
+    /// The roots of the blobs, in the order in which they came.
+    pub fn roots(&self, alloc: Global) -> Result<Vec<Root>, AllocError>
+        ensures { IfOk result (λ roots. roots.items ≡ stock_roots self.now) }
+    {
+        self.blobs.iter().map(|blob| blob.root()).collect(alloc)
+    }
+
+    /// A blob is stored. Where memory is wanting, nothing changes.
+    pub fn push(&mut self, root: Root, len: u64) -> Result<(), AllocError>
+        ensures ok { OnOk result (self.new ≡ self.old ++ record { root = root; len = len } ∷ []) }
+        ensures err { OnErr result (self.new ≡ self.old) }
+    {
+        self.blobs.push(Blob::make(root, len))?;
+        if let Err(fault) = note(&mut self.lens, root, len) {
+            let _ = self.blobs.pop();
+            return Err(fault);
+        }
+        self.pages = self.pages.saturating_add(pages_of(len));
+        Ok(())
+    }
+
+    /// The blobs with these roots are removed.
+    pub fn remove(&mut self, roots: &[Root])
+        ensures { self.new ≡ without_blobs self.old roots.now }
+    {
+        forget(&mut self.lens, roots);
+        keep_noted(&mut self.blobs, &self.lens);
+        self.pages = pages_in(&self.blobs);
     }
 }
 
-pub(crate) fn is_stored(stock: &[Blob], root: &Root) -> bool
-    ensures { result ≡ is_stored stock.now root.now }
+/// How many pages a blob of this length has.
+pub(crate) fn pages_of(len: u64) -> u64
+    ensures { result ≡ pages_of len }
 {
-    stored_len(stock, root).is_some()
+    len.div_ceil(4096).max(1)
 }
 
-fn is_among(roots: &[Root], root: &Root) -> bool
-    ensures { result ≡ has_root roots.now root.now }
+fn pages_in(blobs: &[Blob]) -> u64
+    ensures { result ≡ min (stock_pages blobs.now) (2 ^ 64 - 1) }
 {
-    roots.iter().any(|other| other == root)
+    let mut pages: u64 = 0;
+    for blob in blobs {
+        pages = pages.saturating_add(pages_of(blob.len()));
+    }
+    pages
 }
 
-// Removes the blobs with these roots.
-pub(crate) fn keep_others(stock: &mut Vec<Blob>, roots: &[Root])
-    ensures { stock.new.items ≡ without_blobs stock.old.items roots.now }
+// The length of a root is noted, unless it has one.
+fn note(lens: &mut BTreeMap<Root, u64>, root: Root, len: u64) -> Result<(), AllocError>
+    ensures ok { OnOk result ((other : RootOf) → get root_cmp lens.new other
+        ≡ first_len (get root_cmp lens.old other) (if root_eq root other then Some len else None)) }
+    ensures err { OnErr result (lens.new.entries ≡ lens.old.entries) }
 {
-    stock.retain(|blob| !is_among(roots, &blob.root));
+    if lens.contains_key(&root) {
+        return Ok(());
+    }
+    lens.insert(root, len)?;
+    Ok(())
+}
+
+// These roots have no lengths from now on.
+fn forget(lens: &mut BTreeMap<Root, u64>, roots: &[Root])
+    ensures { (other : RootOf) → get root_cmp lens.new other
+        ≡ (if has_root roots.now other then None else get root_cmp lens.old other) }
+{
+    for root in roots {
+        let _ = lens.remove(root);
+    }
+}
+
+// The blobs whose roots have no lengths are removed.
+fn keep_noted(blobs: &mut Vec<Blob>, lens: &BTreeMap<Root, u64>)
+    ensures { blobs.new.items ≡ filter (λ (blob : Stored). is_some (get root_cmp lens.now blob.root)) blobs.old.items }
+{
+    blobs.retain(|blob| lens.contains_key(&blob.root));
 }

@@ -1,6 +1,6 @@
 //! The state that each act leaves, but for its books.
 
-ghost use Rattle.std.specs.Prelude.{◌≡◌, ◌≢◌, ℕ, false, true, Some, None, OnOk, OnErr};
+ghost use Rattle.std.specs.Prelude.{◌≡◌, ◌≢◌, ℕ, false, true, Some, None, IsSome, OnOk, OnErr};
 ghost use Rattle.std.specs.List.{All};
 ghost use Rattle.abr_record.specs.declared.Slot.TheVariants as slots;
 ghost use Rattle.fetch_queue.specs.Fetches.{is_claimed};
@@ -9,9 +9,9 @@ ghost use Rattle.store_model.specs.declared.ends.Cause.{Cause as CauseOf};
 ghost use Rattle.store_model.specs.declared.ends.WantEnd.TheVariants as wants;
 ghost use Rattle.store_model.specs.declared.ends.RetainEnd.TheVariants as retains;
 ghost use Rattle.store_model.specs.declared.ends.StageEnd.TheVariants as stages;
-ghost use Rattle.store_model.specs.State.{other_slot};
+ghost use Rattle.store_model.specs.State.{arrival_of, without_ticket, other_slot};
 ghost use Rattle.store_model.specs.Acts.Begin.{next_begin};
-ghost use Rattle.store_model.specs.Acts.Want.{next_want};
+ghost use Rattle.store_model.specs.Acts.Want.{active_after_want, next_want};
 ghost use Rattle.store_model.specs.Acts.GaveUp.{next_gave_up};
 ghost use Rattle.store_model.specs.Acts.Room.{next_room};
 ghost use Rattle.store_model.specs.Acts.Land.{next_land};
@@ -25,7 +25,6 @@ ghost use Rattle.store_model.specs.Acts.Seal.{next_seal};
 ghost use Rattle.store_model.specs.Acts.LeftStage.{next_left_stage};
 ghost use Rattle.store_model.specs.Acts.Commit.{next_commit};
 
-use crate::blobs::{Blob, keep_others};
 use crate::state::State;
 use crate::turns::{PhaseOf, Turn};
 use abr_record::{Slot, commit, mark_unbootable};
@@ -74,6 +73,32 @@ impl State {
         self.queue.delist(ticket);
     }
 
+    /// The package of a ticket is opened as a directory with a new number.
+    pub fn open_ticket(&mut self, number: u64, lane: u32, ticket: u64) -> Result<(), AllocError>
+        requires fresh { All (λ dir. dir.number ≢ number) self.old.dirs }
+        requires arrives { IsSome (arrival_of self.old.arriving ticket) }
+        ensures ok { OnOk result (self.new ≡ next_want self.old number lane ticket wants.Opened) }
+        ensures err { OnErr result (self.new ≡ self.old) }
+    {
+        let Some(root) = self.root_of_ticket(ticket) else {
+            unreachable!()
+        };
+        self.open_path(number, lane, root)?;
+        self.make_active(ticket);
+        Ok(())
+    }
+
+    // The package of a ticket arrives no longer. It is active under its path, unless that is in the base.
+    fn make_active(&mut self, ticket: u64)
+        ensures { self.new ≡ record self.old {
+          arriving = without_ticket self.old.arriving ticket;
+          active = active_after_want self.old ticket wants.Opened;
+        } }
+    {
+        self.indexes.activate(ticket);
+        self.queue.delist(ticket);
+    }
+
     /// Room of this length is made for the claimed blob.
     pub fn make_room(&mut self, root: &Root, len: u64)
         ensures { self.new ≡ next_room self.old root.now len None }
@@ -93,7 +118,7 @@ impl State {
         ensures ok { OnOk result (self.new ≡ next_land self.old root len None) }
         ensures err { OnErr result (self.new ≡ self.old) }
     {
-        self.stock.push(Blob::make(root, len))?;
+        self.stock.push(root, len)?;
         self.queue.end_claim(&root);
         Ok(())
     }
@@ -119,7 +144,7 @@ impl State {
     pub fn collect(&mut self, roots: &Roots)
         ensures { self.new ≡ next_collect self.old (Some roots.now) }
     {
-        keep_others(&mut self.stock, roots.as_slice());
+        self.stock.remove(roots.as_slice());
     }
 
     /// These packages, and no others, are retained.

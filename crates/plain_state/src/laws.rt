@@ -34,7 +34,7 @@ pub fn still_acts_are_settled()
     ensures nothing { (t : StateOf) → IsReady t → IsSettled [] t t }
     ensures granted { (t : StateOf) (number lane ticket : ℕ) (root : RootOf) → IsReady t
         → IsSettled [] (next_want t number lane ticket (wants.Fetch root))
-            (next_want t number lane ticket (wants.Fetch root)) }
+        (next_want t number lane ticket (wants.Fetch root)) }
     ensures room { (t : StateOf) (root : RootOf) (len : ℕ) → IsReady t
         → IsSettled [] (next_room t root len None) (next_room t root len None) }
     ensures unclaimed { (t : StateOf) (root : RootOf) → IsReady t → IsSettled [] (unclaimed t root) (unclaimed t root) }

@@ -5,14 +5,23 @@ mod blobs;
 mod books;
 mod changes;
 mod contents;
+mod files;
+mod holdings;
+mod judging;
 mod laws;
+mod looks;
+mod marking;
 mod packages;
+mod rest;
+mod room;
 mod settling;
 mod state;
 mod turns;
 
-pub use blobs::Blob;
+pub use blobs::{Blob, Stock};
 pub use contents::Contents;
+pub use files::FileAt;
+pub use judging::Activation;
 pub use laws::{
     collections_are_settled, openings_are_settled, still_acts_are_settled, stores_are_ready,
 };

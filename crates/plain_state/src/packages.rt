@@ -7,7 +7,7 @@ ghost use Rattle.package_book.specs.Names.{names, roots_known};
 ghost use Rattle.store_model.specs.State.{is_stored, has_root};
 ghost use Rattle.store_model.specs.Packages.{known_book, known_fault};
 
-use crate::blobs::{Blob, is_stored};
+use crate::blobs::Stock;
 use fetch_queue::Queue;
 use package_book::{PackageFault, Shelf, Shelved};
 use pkg_names::Root;
@@ -48,19 +48,19 @@ fn listed<'a>(books: &'a Shelf, root: &Root) -> &'a [Root]
 }
 
 // The first blob of the package that isn't stored.
-pub(crate) fn first_missing(books: &Shelf, stock: &[Blob], root: &Root) -> Option<Root>
+pub(crate) fn first_missing(books: &Shelf, stock: &Stock, root: &Root) -> Option<Root>
     ensures { result ≡ find (λ name. not (is_stored stock.now name)) (names root.now books.now) }
 {
-    if !is_stored(stock, root) {
+    if !stock.is_stored(root) {
         return Some(*root);
     }
     missing_in(listed(books, root), stock)
 }
 
-fn missing_in(roots: &[Root], stock: &[Blob]) -> Option<Root>
+fn missing_in(roots: &[Root], stock: &Stock) -> Option<Root>
     ensures { result ≡ find (λ name. not (is_stored stock.now name)) roots.now }
 {
-    roots.iter().find(|name| !is_stored(stock, name)).copied()
+    roots.iter().find(|name| !stock.is_stored(name)).copied()
 }
 
 fn is_claimed(queue: &Queue, root: &Root) -> bool
@@ -70,14 +70,14 @@ fn is_claimed(queue: &Queue, root: &Root) -> bool
 }
 
 // Nobody has the blob or fetches it.
-fn is_free(stock: &[Blob], queue: &Queue, root: &Root) -> bool
+fn is_free(stock: &Stock, queue: &Queue, root: &Root) -> bool
     ensures { result ≡ not (is_stored stock.now root.now || is_claimed queue.now.claims root.now) }
 {
-    !(is_stored(stock, root) || is_claimed(queue, root))
+    !(stock.is_stored(root) || is_claimed(queue, root))
 }
 
 // The first blob of the package that nobody has or fetches.
-pub(crate) fn first_free(books: &Shelf, stock: &[Blob], queue: &Queue, root: &Root) -> Option<Root>
+pub(crate) fn first_free(books: &Shelf, stock: &Stock, queue: &Queue, root: &Root) -> Option<Root>
     ensures { result ≡ find (λ name. not (is_stored stock.now name || is_claimed queue.now.claims name))
         (names root.now books.now) }
 {
@@ -87,7 +87,7 @@ pub(crate) fn first_free(books: &Shelf, stock: &[Blob], queue: &Queue, root: &Ro
     free_in(listed(books, root), stock, queue)
 }
 
-fn free_in(roots: &[Root], stock: &[Blob], queue: &Queue) -> Option<Root>
+fn free_in(roots: &[Root], stock: &Stock, queue: &Queue) -> Option<Root>
     ensures { result ≡ find (λ name. not (is_stored stock.now name || is_claimed queue.now.claims name)) roots.now }
 {
     roots

@@ -89,7 +89,8 @@ impl State {
         }
     }
 
-    /// A blob is stored whose bytes are whole. Takes the bytes, where its package is protected and not too long to be read.
+    /// A blob is stored whose bytes are whole. Takes the bytes, where its package is protected and isn't too
+    /// long to be read.
     pub fn store(&mut self, root: Root, len: u64, meta: Option<Bytes>) -> Result<(), AllocError>
         requires ready { IsReady self.old }
         requires missing { is_stored self.old.stock root ≡ false }
@@ -122,8 +123,8 @@ impl State {
         }
     }
 
-    // The package of the lane's directory with this number.
-    fn root_of_dir(&self, dir: u64, lane: u32) -> Option<Root>
+    /// The package of the lane's directory with this number.
+    pub fn root_of_dir(&self, dir: u64, lane: u32) -> Option<Root>
         ensures { result ≡ root_of self.now.dirs dir lane }
     {
         self.dirs.root_of(dir, lane)

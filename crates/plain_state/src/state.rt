@@ -1,6 +1,6 @@
 //! The state, and what it answers.
 
-ghost use Rattle.std.specs.Prelude.{◌≡◌, ◌==◌, not, find, is_some, option_and_then, option_copied};
+ghost use Rattle.std.specs.Prelude.{◌≡◌, ◌==◌, not, find, None, is_some, option_and_then, option_copied, if◌then◌else◌};
 ghost use Rattle.open_tracker.specs.Directories.{root_of};
 ghost use Rattle.package_indexes.specs.declared.Arriving.{Arriving as ArrivingOf};
 ghost use Rattle.package_indexes.specs.Sets.{arriving_with};
@@ -13,8 +13,9 @@ ghost use Rattle.store_model.specs.Acts.Begin.{begin_answer, has_to_read};
 ghost use Rattle.store_model.specs.Acts.Want.{first_free, answer_for, want_answer};
 ghost use Rattle.store_model.specs.Acts.OpenPath.{root_to_open};
 ghost use Rattle.store_model.specs.Acts.Stage.{stage_answer};
+ghost use Rattle.plain_state.specs.Opening.{replaced};
 
-use crate::blobs::{self, Blob};
+use crate::blobs::Stock;
 use crate::packages::{fault_of, first_free, first_missing, is_book, is_known};
 use crate::turns::Turn;
 use abr_record::{Record, Slot, bootable};
@@ -31,7 +32,7 @@ use store_model::{BeginEnd, Cause, StageEnd, WantEnd};
 /// What lasts: the stock, the boot record, and the systems of A and B.
 #[derive(Drop)]
 pub struct Standing {
-    stock: Vec<Blob>,
+    stock: Stock,
     abr: Record,
     a: Option<Sys>,
     b: Option<Sys>,
@@ -42,12 +43,12 @@ impl Model for Standing {
 
     ghost Value = { StandingOf };
 
-    ghost view = { λ d. record { stock = d.stock.items; abr = d.abr; a = d.a; b = d.b } };
+    ghost view = { λ d. record { stock = d.stock; abr = d.abr; a = d.a; b = d.b } };
 }
 
 impl Standing {
-    pub fn make(stock: Vec<Blob>, abr: Record, a: Option<Sys>, b: Option<Sys>) -> Standing
-        ensures { result ≡ record { stock = stock.items; abr = abr; a = a; b = b } }
+    pub fn make(stock: Stock, abr: Record, a: Option<Sys>, b: Option<Sys>) -> Standing
+        ensures { result ≡ record { stock = stock; abr = abr; a = a; b = b } }
     {
         Standing { stock, abr, a, b }
     }
@@ -59,7 +60,7 @@ pub struct State {
     pub(crate) alloc: Global,
     pub(crate) geometry: Geometry,
     pub(crate) booted: bool,
-    pub(crate) stock: Vec<Blob>,
+    pub(crate) stock: Stock,
     pub(crate) books: Shelf,
     pub(crate) indexes: Indexes,
     pub(crate) queue: Queue,
@@ -82,7 +83,7 @@ impl Model for State {
     ghost view = { λ s. record {
       geometry = s.geometry;
       booted = s.booted;
-      stock = s.stock.items;
+      stock = s.stock;
       books = s.books;
       claims = s.queue.claims;
       arriving = joined s.indexes.arriving s.queue.marks;
@@ -132,7 +133,7 @@ impl State {
     pub fn stored_len(&self, root: &Root) -> Option<u64>
         ensures { result ≡ stored_len self.now.stock root.now }
     {
-        blobs::stored_len(&self.stock, root)
+        self.stock.len_of(root)
     }
 
     /// What a request for a package is answered, if no read fails.
@@ -214,6 +215,16 @@ impl State {
     {
         match with_ticket(self.indexes.arriving(), ticket) {
             Some(arrival) => Some(arrival.root),
+            None => None,
+        }
+    }
+
+    /// The active package whose place the package of a ticket takes, once it is opened.
+    pub fn replaced(&self, ticket: u64) -> Option<Root>
+        ensures { result ≡ replaced self.now ticket }
+    {
+        match with_ticket(self.indexes.arriving(), ticket) {
+            Some(arrival) => replaced_in(&self.indexes, &arrival.path),
             None => None,
         }
     }
@@ -325,6 +336,17 @@ fn with_ticket<'a>(arriving: &'a [Arriving], ticket: u64) -> Option<&'a Arriving
     ensures { option_copied result ≡ find (λ (arrival : ArrivingOf). arrival.ticket == ticket) arriving.now }
 {
     arriving.iter().find(|arrival| arrival.ticket == ticket)
+}
+
+// The active package of a path that the base hasn't.
+fn replaced_in(indexes: &Indexes, path: &PackagePath) -> Option<Root>
+    ensures { result ≡ if is_some (root_at indexes.now.base path.now) then None
+        else root_at indexes.now.active path.now }
+{
+    match indexes.root_at(PathSet::Base, path) {
+        Some(_) => None,
+        None => indexes.root_at(PathSet::Active, path),
+    }
 }
 
 // A mark comes first, then that the package is none, then that all is there, then what is to be fetched.

@@ -31,7 +31,8 @@ pub trait Evidence {
 
     /// The first blob that the package names and that isn't stored.
     fn first_missing(&self, root: &Root) -> Option<Root>
-        ensures { result ≡ find (λ name. not (is_some ((at_hand self.now).len name))) ((at_hand self.now).names root.now) };
+        ensures { let at = at_hand self.now in
+            result ≡ find (λ name. not (is_some (at.len name))) (at.names root.now) };
 
     /// The root of the package's outer file of this path.
     fn outer(&self, root: &Root, file: &FilePath) -> Option<Root>
