@@ -4,7 +4,7 @@ use Rattle.disk_model.proofs.Regions.{writes_write}
 use Rattle.node_table.specs.Spelling.{link_on}
 use Rattle.node_table.proofs.PagesAs.{as_more}
 use Rattle.node_table.proofs.Parts.{Holds, holds_part}
-use Rattle.node_table.proofs.Acts.{row_none, row_more}
+use Rattle.node_table.proofs.Acts.{row_more}
 use Rattle.node_table.proofs.copy.write_links.Goals as goal
 
 pub returns-in_err-write-clause-only : goal.returns-in_err-write-clause-only

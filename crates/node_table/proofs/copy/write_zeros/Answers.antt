@@ -4,7 +4,7 @@ use Rattle.disk_model.specs.declared.act.DiskAct.TheVariants.{Wrote}
 use Rattle.disk_model.specs.Images.{IsInRow}
 use Rattle.disk_model.proofs.Regions.{writes_write}
 use Rattle.disk_model.proofs.ManyPages.{all_written_more}
-use Rattle.node_table.proofs.Acts.{row_none, row_more}
+use Rattle.node_table.proofs.Acts.{row_more}
 use Rattle.node_table.proofs.copy.write_zeros.Goals as goal
 
 pub returns-in_err-write-clause-only : goal.returns-in_err-write-clause-only
