@@ -1,5 +1,5 @@
 -- The path of the system package.
-use Rattle.std.proofs.Common.{◌≡◌, inl, ℕ, List, refl, lit<, lit≤}
+use Rattle.std.proofs.Common.{inl, refl, lit<, lit≤}
 use Rattle.std.specs.Prelude.{codes}
 use Rattle.std.proofs.lemmas.List.Sums.{AllPass-from_list_all}
 use Rattle.pkg_names.specs.NameAndVariant.{byte_in_name, IsName, Spells}

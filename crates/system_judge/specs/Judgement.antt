@@ -1,5 +1,5 @@
 -- What a judgement says, as a verdict.
-use Rattle.std.specs.Prelude.{◌≡◌, ◌&&◌, not, Bool, List, [], ◌∷◌, Option, Some, None, is_some, Result, Ok, Err}
+use Rattle.std.specs.Prelude.{◌≡◌, List, Option, Some, None, Result, Ok, Err}
 use Rattle.pkg_names.specs.declared.pinned.Pinned.{Pinned}
 use Rattle.system_lists.specs.declared.fault.SystemFault.{SystemFault}
 use Rattle.system_lists.specs.Judging.{Verdict}

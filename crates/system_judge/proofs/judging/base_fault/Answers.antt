@@ -1,4 +1,4 @@
-use Rattle.std.proofs.Common.{◌≡◌, ◌+◌, ◌<◌, List, [], ◌∷◌, length, get_or, drop, Option, sym, ap, ◌∙◌, arith}
+use Rattle.std.proofs.Common.{◌+◌, ◌<◌, [], ◌∷◌, length, drop, Option, sym, ap, ◌∙◌, arith}
 use Rattle.std.specs.Option.{option_map}
 use Rattle.pkg_names.specs.declared.pinned.Pinned.{Pinned}
 use Rattle.system_lists.specs.declared.fault.SystemFault.TheVariants.{BadBase}
