@@ -1,0 +1,5 @@
+pub mod Serving
+pub mod Counting
+pub mod Fetched
+pub mod Viewing
+pub mod Steps

@@ -1,0 +1,90 @@
+//! A whole resolve.
+
+ghost use Rattle.std.specs.Prelude.{◌≡◌, ◌≢◌, ◌≤◌, ◌++◌, ◌↔◌, ℕ, None, IfSome, All, length};
+ghost use Rattle.pkg_names.specs.Streams.{raised_count, RoseBy};
+ghost use Rattle.store_model.specs.Desk.{held_by, Stays, KeepsImages};
+ghost use Rattle.store_model.specs.Calls.{HoldsNoClaim};
+ghost use Rattle.resolver.specs.Serving.{IsChoiceFor, Serves};
+ghost use Rattle.resolver.specs.Counting.{grants, failures};
+ghost use Rattle.resolver.specs.Fetched.{IsListed, Lists, Tells};
+ghost use Rattle.resolver.specs.Viewing.{Agrees, run_of, IsHeldAfter};
+ghost use Rattle.resolver.specs.Steps.{failures_of};
+
+use crate::reply::ResolveReply;
+use crate::rounds::arrive;
+use package_indexes::Choice;
+use package_url::Url;
+use repo_source::{FindReply, Repo};
+use std::alloc::Global;
+use std::sync::Wait;
+use store_model::{BeginReply, Desk, PIECE_LIMIT};
+
+/// Brings the package of a URL to the store and opens it. A URL without a pin has its root from the
+/// repository's listing. Each blob that is missing and that no other lane fetches is fetched from the
+/// repository; the others are waited for. Whatever is answered, the lane has no claim and no ticket of this
+/// call, and no directory but the one that is replied.
+pub fn resolve<W: Wait, K: Desk, R: Repo>(
+    rt: &W,
+    alloc: Global,
+    desk: &mut K,
+    repo: &mut R,
+    url: &Url,
+) -> ResolveReply
+    requires no_file { url.now.file ≡ None }
+    requires free { HoldsNoClaim (K.view desk.old) }
+
+    // The lane's events of this call are one run that resolves the package, and the reply is its own.
+    ensures stays { Stays (K.view desk.old) (K.view desk.new) }
+    ensures grows { (K.view desk.new).mine ≡ (K.view desk.old).mine ++ run_of (K.view desk.old) (K.view desk.new) }
+    ensures serves { Serves url.now.path url.now.pin (run_of (K.view desk.old) (K.view desk.new)) result }
+    ensures agrees { Agrees (K.view desk.old) → Agrees (K.view desk.new) }
+
+    // What it leaves with the lane.
+    ensures held { IsHeldAfter (K.view desk.old).lane result (held_by (K.view desk.old)) (held_by (K.view desk.new)) }
+    ensures images { KeepsImages (K.kept desk.old) (K.kept desk.new) }
+    ensures fillers { (K.view desk.new).fillers ≡ (K.view desk.old).fillers }
+    ensures firm { K.firm desk.old ↔ K.firm desk.new }
+
+    // What the repository has to do with it.
+    ensures fetches { R.fetches repo.new
+        ≡ raised_count (grants (run_of (K.view desk.old) (K.view desk.new))) (R.fetches repo.old) }
+    ensures listed { IfSome (R.listing repo.old) (λ all. All (Lists all) (run_of (K.view desk.old) (K.view desk.new))) }
+    ensures fetched { IfSome (R.files repo.old) (λ all. All (Tells all) (run_of (K.view desk.old) (K.view desk.new))) }
+    ensures faults { RoseBy (failures (run_of (K.view desk.old) (K.view desk.new))) (R.faults repo.old) (R.faults repo.new) }
+    ensures listing { R.listing repo.new ≡ R.listing repo.old }
+    ensures files { R.files repo.new ≡ R.files repo.old }
+{
+    let Ok(mut buffer) = vec![in alloc; 0u8; PIECE_LIMIT] else {
+        return ResolveReply::NoMemory;
+    };
+    let choice = choose(repo, url);
+    match desk.begin(&url.path, choice) {
+        BeginReply::Made(ticket) => arrive(rt, alloc, desk, repo, &mut buffer, ticket),
+        BeginReply::InRecovery => ResolveReply::InRecovery,
+        BeginReply::NotFound => ResolveReply::NotFound,
+        BeginReply::ListingFault => ResolveReply::ListingFault,
+        BeginReply::DiskRead => ResolveReply::DiskRead,
+        BeginReply::Rotten { root, got } => ResolveReply::Rotten { root, got },
+        BeginReply::Broken { number } => ResolveReply::Broken { number },
+        BeginReply::NoMemory => ResolveReply::NoMemory,
+    }
+}
+
+// The pin, or what the repository says of the path.
+fn choose<R: Repo>(repo: &mut R, url: &Url) -> Choice
+    ensures chosen { IsChoiceFor url.now.pin result }
+    ensures listed { IfSome (R.listing repo.old) (λ all. IsListed all url.now.path result) }
+    ensures faults { RoseBy (failures_of result) (R.faults repo.old) (R.faults repo.new) }
+    ensures fetches { R.fetches repo.new ≡ R.fetches repo.old }
+    ensures listing { R.listing repo.new ≡ R.listing repo.old }
+    ensures files { R.files repo.new ≡ R.files repo.old }
+{
+    if let Some(root) = url.pin {
+        return Choice::Pinned(root);
+    }
+    match repo.find(&url.path) {
+        FindReply::Found(root) => Choice::Listed(root),
+        FindReply::Absent => Choice::Absent,
+        FindReply::Failed => Choice::Failed,
+    }
+}
