@@ -1,15 +1,18 @@
 -- How often events of a kind stand in a run.
-use Rattle.std.specs.Prelude.{ℕ, Bool, true, false, List, count_by, is_some}
+use Rattle.std.specs.Prelude.{ℕ, zero, suc, Bool, true, false, List, count_by, is_some}
 use Rattle.package_indexes.specs.declared.Choice.TheVariants as choices
+use Rattle.pkg_names.specs.Streams.{one_more}
 use Rattle.store_model.specs.declared.ends.Miss.TheVariants as misses
 use Rattle.store_model.specs.declared.ends.WantEnd.TheVariants as wants
 use Rattle.store_model.specs.declared.events.Act.{Act}
 use Rattle.store_model.specs.declared.events.Act.TheVariants as acts
+use Rattle.store_model.specs.declared.events.CallName.TheVariants as calls
 use Rattle.store_model.specs.History.{Numbered}
 use Rattle.store_model.specs.Lanes.{ends_claim_of}
 
 abbrev pub is_begin : Act → Bool
 is_begin (acts.Begin path choice reply seen) = true
+is_begin (acts.Refused (calls.Begin path) broken) = true
 is_begin act = false
 
 abbrev pub is_grant : Act → Bool
@@ -37,3 +40,8 @@ ends run = count_by (λ (e : Numbered). is_some (ends_claim_of e.event)) run
 -- how often the events say that the repository failed
 abbrev pub failures : List Numbered → ℕ
 failures run = count_by (λ (e : Numbered). is_failure e.event.act) run
+
+-- a count that was raised so many times
+abbrev pub counted : ℕ → ℕ → ℕ
+counted zero count = count
+counted (suc times) count = one_more (counted times count)

@@ -54,7 +54,7 @@ pub record IsOther (len : ℕ) (got : Root) (file : RepoFile) : Type 0 where
 -- does not land. A grant is missed as absent where there is no file.
 abbrev pub TellsInAct : List RepoFile → Act → Type 0
 TellsInAct files (acts.Room root len reply) = HasFile files root (λ file. file.len ≡ len)
-TellsInAct files (acts.Put root (Some (ends.Long len))) = HasFile files root (λ file. len < length file.bytes)
+TellsInAct files (acts.Put root (Some end)) = HasFile files root (λ file. file.len < length file.bytes)
 TellsInAct files (acts.Land root len None seen) = HasFile files root (IsBlob root len seen)
 TellsInAct files (acts.Land root len (Some (ends.Short have)) seen) =
     HasFile files root (λ file. length file.bytes ≡ have)

@@ -3,3 +3,4 @@ pub mod Counting
 pub mod Fetched
 pub mod Viewing
 pub mod Steps
+pub mod Laws

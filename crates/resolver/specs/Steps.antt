@@ -2,7 +2,7 @@
 use Rattle.std.specs.Prelude.{◌≡◌, ℕ, ◌+◌, ◌<◌, List, ◌++◌, take, length, Option, Some, Result, Ok, Err, All}
 use Rattle.package_indexes.specs.declared.Choice.{Choice}
 use Rattle.package_indexes.specs.declared.Choice.TheVariants as choices
-use Rattle.pkg_names.specs.Streams.{raised_count, RoseBy}
+use Rattle.pkg_names.specs.Streams.{RoseBy}
 use Rattle.pkg_names.specs.declared.pinned.Pinned.{Pinned}
 use Rattle.pkg_names.specs.declared.root.Root.{Root}
 use Rattle.repo_source.specs.declared.file.RepoFile.{RepoFile}
@@ -21,7 +21,7 @@ use Rattle.resolver.specs.declared.pieces.Piece.{Piece}
 use Rattle.resolver.specs.declared.pieces.Piece.TheVariants as pieces
 use Rattle.resolver.specs.Serving.{Point, Leads}
 use Rattle.resolver.specs.Serving.Point.{Waiting, Roomy, Giving, Opened, Refused}
-use Rattle.resolver.specs.Counting.{grants, failures}
+use Rattle.resolver.specs.Counting.{grants, failures, counted}
 use Rattle.resolver.specs.Fetched.{Lists, Tells, HasFile}
 use Rattle.resolver.specs.Viewing.{Agrees}
 
@@ -87,11 +87,14 @@ pub record Goes (granted : ℕ) (from to : Point) (old new : View) (listing : Op
 
 -- ---- the bytes on their way
 
--- these bytes are the front of the file under the root, and what is read next comes behind them
-pub record IsFront (files : List RepoFile) (root : Root) (place : Reading) (bytes : List ℕ) : Type 0 where
+-- These bytes are the front of the file under the root, which has this declared length, and what is read next
+-- comes behind them.
+pub record IsFront (files : List RepoFile) (root : Root) (len : ℕ) (place : Reading) (bytes : List ℕ)
+    : Type 0 where
   pub file : RepoFile
   pub found : file_under files root ≡ Some file
-  pub place : place ≡ record { root = root; given = length bytes }
+  pub declared : file.len ≡ len
+  pub reads : place ≡ record { root = root; given = length bytes }
   pub front : take (length bytes) file.bytes ≡ bytes
 
 -- So many bytes of the room are left. What was put is the front of the file, where files are told.
@@ -100,7 +103,7 @@ pub record Fills (kept : Kept) (files : Option (List RepoFile)) (root : Root) (p
   pub bytes : List ℕ
   pub put : kept Blob bytes
   pub size : length bytes + left ≡ len
-  pub front : (all : List RepoFile) → files ≡ Some all → IsFront all root place bytes
+  pub front : (all : List RepoFile) → files ≡ Some all → IsFront all root len place bytes
 
 -- after a piece that was taken
 abbrev pub FillsOn : Kept → Option (List RepoFile) → Root → Reading → ℕ → ℕ → Piece → Type 0
@@ -121,7 +124,7 @@ pub record Fetches (from to : Point) (old new : View) (listing : Option (List Pi
     (files : Option (List RepoFile)) (before after asked asked_now : ℕ) : Type 0 where
   pub granted : ℕ
   pub goes : Goes granted from to old new listing files before after
-  pub fetches : asked_now ≡ raised_count granted asked
+  pub fetches : asked_now ≡ counted granted asked
 
 -- how often a choice says that the repository failed
 abbrev pub failures_of : Choice → ℕ

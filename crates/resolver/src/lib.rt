@@ -4,10 +4,12 @@
 #![tactic(auto)]
 
 mod fetching;
+mod laws;
 mod pieces;
 mod reply;
 mod resolving;
 mod rounds;
 
+pub use laws::runs_resolve_one_package;
 pub use reply::ResolveReply;
 pub use resolving::resolve;

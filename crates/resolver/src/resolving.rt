@@ -1,11 +1,11 @@
 //! A whole resolve.
 
 ghost use Rattle.std.specs.Prelude.{◌≡◌, ◌≢◌, ◌≤◌, ◌++◌, ◌↔◌, ℕ, None, IfSome, All, length};
-ghost use Rattle.pkg_names.specs.Streams.{raised_count, RoseBy};
+ghost use Rattle.pkg_names.specs.Streams.{RoseBy};
 ghost use Rattle.store_model.specs.Desk.{held_by, Stays, KeepsImages};
 ghost use Rattle.store_model.specs.Calls.{HoldsNoClaim};
 ghost use Rattle.resolver.specs.Serving.{IsChoiceFor, Serves};
-ghost use Rattle.resolver.specs.Counting.{grants, failures};
+ghost use Rattle.resolver.specs.Counting.{grants, failures, counted};
 ghost use Rattle.resolver.specs.Fetched.{IsListed, Lists, Tells};
 ghost use Rattle.resolver.specs.Viewing.{Agrees, run_of, IsHeldAfter};
 ghost use Rattle.resolver.specs.Steps.{failures_of};
@@ -47,7 +47,7 @@ pub fn resolve<W: Wait, K: Desk, R: Repo>(
 
     // What the repository has to do with it.
     ensures fetches { R.fetches repo.new
-        ≡ raised_count (grants (run_of (K.view desk.old) (K.view desk.new))) (R.fetches repo.old) }
+        ≡ counted (grants (run_of (K.view desk.old) (K.view desk.new))) (R.fetches repo.old) }
     ensures listed { IfSome (R.listing repo.old) (λ all. All (Lists all) (run_of (K.view desk.old) (K.view desk.new))) }
     ensures fetched { IfSome (R.files repo.old) (λ all. All (Tells all) (run_of (K.view desk.old) (K.view desk.new))) }
     ensures faults { RoseBy (failures (run_of (K.view desk.old) (K.view desk.new))) (R.faults repo.old) (R.faults repo.new) }

@@ -1,0 +1,4 @@
+pub mod Goes
+pub mod Desks
+pub mod Handles
+pub mod Runs
