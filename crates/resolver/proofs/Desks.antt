@@ -45,7 +45,7 @@ use Rattle.resolver.specs.Serving.Point.{Asking, Waiting, Granted, Roomy, Giving
 use Rattle.resolver.specs.Counting.{is_failure}
 use Rattle.resolver.specs.Fetched.{IsListed, HasFile, IsBlob, IsOther, TellsInAct}
 use Rattle.resolver.specs.Steps.{Goes, IsFilled, failures_of}
-use Rattle.resolver.proofs.Goes.{Fits, as_numbered, fits_act, fits_break, goes_does, goes_rests, rose_less, rose_none}
+use Rattle.resolver.proofs.Goes.{Fits, as_numbered, fits_act, fits_break, goes_does, goes_rests, rose_less, rose_same}
 
 -- ---- a package is asked for
 
@@ -94,7 +94,7 @@ granted_by reply = 0
 
 module _ (listing : Option (List Pinned)) (files : Option (List RepoFile)) (faults : ℕ) where
   same : RoseBy 0 faults faults
-  same = rose_none faults faults (omega arith)
+  same = rose_same faults
 
   pub want_goes : (path : NameAndVariant) (ticket : Ticket) (reply : WantReply) (old new : View) → desk.Wants ticket reply old new → new.fillers ≡ old.fillers
       → Goes (granted_by reply) (Waiting (ticket_for path ticket)) (after_want (ticket_for path ticket) reply) old new listing files faults faults

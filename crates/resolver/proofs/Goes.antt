@@ -28,6 +28,9 @@ rose_less n x y h = omega arith
 pub rose_none : (x y : ℕ) → x ≤ y → RoseBy 0 x y
 rose_none x y h = omega arith
 
+pub rose_same : (x : ℕ) → RoseBy 0 x x
+rose_same x = omega arith
+
 counted_then : (m n x : ℕ) → counted n (counted m x) ≡ counted (m + n) x
 counted_then m zero x = ap (λ (i : ℕ). counted i x) (sym (add-zero m))
 counted_then m (suc n) x = ap one_more (counted_then m n x) ∙ ap (λ (i : ℕ). counted i x) (sym (add-suc m n))
@@ -156,6 +159,13 @@ goes_then m n a b c v w u listing files x y z h k = record {
   tells = λ all told. All-append (Tells all) h.run k.run (h.tells all told) (k.tells all told);
   faults = subst (λ (i : ℕ). RoseBy i x z) (sym (failures_then h.run k.run)) (rose_then (failures h.run) (failures k.run) x y z h.faults k.faults);
 }
+
+-- the same from a lower count
+pub goes_from : (n : ℕ) (a b : Point) (v w : View) (listing : Option (List Pinned)) (files : Option (List RepoFile)) (x y z : ℕ) → x ≤ y
+    → Goes n a b v w listing files y z → Goes n a b v w listing files x z
+goes_from n a b v w listing files x y z le h = record h { faults = lower (failures h.run) h.faults } where
+  lower : (m : ℕ) → RoseBy m y z → RoseBy m x z
+  lower m rose = omega arith
 
 -- the same where the second step has what the repository tells after the first
 pub goes_on : (m n : ℕ) (a b c : Point) (v w u : View) (listing listing_then : Option (List Pinned)) (files files_then : Option (List RepoFile)) (x y z : ℕ)

@@ -1,6 +1,7 @@
 -- What a lane holds at its desk while it resolves, and what is kept for it.
 use Rattle.std.proofs.Common.{◌≡◌, ℕ, ◌+◌, ◌<◌, Bool, true, false, cond, not, List, [], ◌∷◌, ◌++◌, length, All, Option, Some, None, IsSomeAnd, refl, sym, ap, subst, ◌∙◌, find, inl, inr, arith}
 use Rattle.std.specs.Prelude.{◌==◌, filter}
+use Rattle.std.specs.Option.{option_map}
 use Rattle.std.proofs.lemmas.Bool.{eq-eqb, ne_eqb, cond-true, cond-false}
 use Rattle.std.proofs.lemmas.List.{append-nil}
 use Rattle.std.proofs.lemmas.List.Elements.{All-head, All-tail, All-weaker}
@@ -9,16 +10,18 @@ use Rattle.pkg_names.specs.NameAndVariant.{NameAndVariant}
 use Rattle.pkg_names.specs.declared.root.Root.{Root}
 use Rattle.open_tracker.specs.declared.dirs.DirEntry.{DirEntry}
 use Rattle.image_layout.specs.declared.ImageKind.{ImageKind}
+use Rattle.store_model.specs.declared.replies.Claim.{Claim}
 use Rattle.store_model.specs.declared.replies.Ticket.{Ticket}
 use Rattle.store_model.specs.declared.replies.BeginReply.TheVariants as begin
-use Rattle.store_model.specs.Holding.{HeldTicket, HeldClaim, Held, ticket_with, without_number, dir_of}
+use Rattle.store_model.specs.declared.replies.RoomReply.TheVariants as room
+use Rattle.store_model.specs.Holding.{HeldTicket, HeldClaim, Held, ticket_with, without_number, dir_of, with_len}
 use Rattle.store_model.specs.HeldAfter.{without_claim}
 use Rattle.store_model.specs.Desk.{View, Keeping, Kept, held_by, Keeps, KeepsImages, Does}
 use Rattle.store_model.specs.Desk.Keeping.{Image}
 use Rattle.store_model.specs.Replies.{IsBegun}
-use Rattle.store_model.specs.Calls.{room_by, HoldsTicket, HoldsClaim, HoldsNoClaim, HoldsRoom, Begins}
+use Rattle.store_model.specs.Calls.{room_by, HoldsTicket, HoldsClaim, HoldsNoClaim, HoldsRoom, HoldsNewClaim, MakesRoom, Begins}
 use Rattle.store_model.proofs.Views.{tickets_before-Does}
-use Rattle.store_model.proofs.CallsHeld.{begun}
+use Rattle.store_model.proofs.CallsHeld.{begun, roomed}
 use Rattle.resolver.specs.declared.reply.ResolveReply.{ResolveReply}
 use Rattle.resolver.specs.declared.reply.ResolveReply.TheVariants as replies
 use Rattle.resolver.specs.Serving.{ticket_for}
@@ -35,6 +38,18 @@ claim_held v root len e = rw e refl
 
 pub room_held : (v : View) (root : Root) → HoldsRoom v root → HoldsClaim v root
 room_held v root room = claim_held v root (Some room.0) room.1
+
+-- the claim comes back with its room
+pub room_made : (claim back : Claim) (len : ℕ) (old mid : View) → MakesRoom claim len (room.Made back) old mid → HoldsNewClaim old claim.root → (held_by mid).claim ≡ Some (record { root = back.root; len = Some len })
+room_made claim back len old mid is new =
+    ap (λ (h : Held). h.claim) (roomed claim len (room.Made back) old mid is) ∙ ap (option_map (with_len len)) new ∙ ap (λ (k : Claim). Some (with_len len (held_claim k.root))) (sym is.1) where
+      held_claim : Root → HeldClaim
+      held_claim root = record { root = root; len = None }
+
+-- a call that leaves what is held leaves the claim, also as it comes back
+pub claim_stays : (old new : View) (back claim : Claim) → held_by new ≡ held_by old → back ≡ claim → HoldsClaim old claim.root → HoldsClaim new back.root
+claim_stays old new back claim held same holds =
+    subst (λ (c : Claim). HoldsClaim new c.root) (sym same) (subst (λ (h : Held). IsSomeAnd h.claim (λ (x : HeldClaim). x.root ≡ claim.root)) (sym held) holds)
 
 -- a lane that held no claim, once it has none again
 pub claim_back : (h : Held) → h.claim ≡ None → without_claim h ≡ h

@@ -1,4 +1,7 @@
 pub mod Goes
 pub mod Desks
 pub mod Handles
+pub mod Filling
 pub mod Runs
+pub mod Rounds
+pub mod Whole

@@ -2,12 +2,14 @@
 use Rattle.std.specs.Prelude.{◌≡◌, ℕ, ◌+◌, ◌<◌, List, ◌++◌, take, length, Option, Some, Result, Ok, Err, All}
 use Rattle.package_indexes.specs.declared.Choice.{Choice}
 use Rattle.package_indexes.specs.declared.Choice.TheVariants as choices
+use Rattle.pkg_names.specs.NameAndVariant.{NameAndVariant}
 use Rattle.pkg_names.specs.Streams.{RoseBy}
 use Rattle.pkg_names.specs.declared.pinned.Pinned.{Pinned}
 use Rattle.pkg_names.specs.declared.root.Root.{Root}
 use Rattle.repo_source.specs.declared.file.RepoFile.{RepoFile}
 use Rattle.repo_source.specs.Repo.{Reading, file_under}
 use Rattle.store_model.specs.declared.events.Event.{Event}
+use Rattle.store_model.specs.declared.replies.Ticket.{Ticket}
 use Rattle.store_model.specs.History.{Numbered}
 use Rattle.store_model.specs.Holding.{Held, HeldTicket, ticket_with, without_number, dir_of}
 use Rattle.store_model.specs.HeldAfter.{without_claim}
@@ -19,8 +21,8 @@ use Rattle.resolver.specs.declared.reply.Stop.{Stop}
 use Rattle.resolver.specs.declared.reply.Stop.TheVariants as stops
 use Rattle.resolver.specs.declared.pieces.Piece.{Piece}
 use Rattle.resolver.specs.declared.pieces.Piece.TheVariants as pieces
-use Rattle.resolver.specs.Serving.{Point, Leads}
-use Rattle.resolver.specs.Serving.Point.{Waiting, Roomy, Giving, Opened, Refused}
+use Rattle.resolver.specs.Serving.{Point, Leads, ticket_for}
+use Rattle.resolver.specs.Serving.Point.{Asking, Waiting, Roomy, Giving, Opened, Refused}
 use Rattle.resolver.specs.Counting.{grants, failures, counted}
 use Rattle.resolver.specs.Fetched.{Lists, Tells, HasFile}
 use Rattle.resolver.specs.Viewing.{Agrees}
@@ -48,6 +50,15 @@ after_arrival ticket reply = Refused reply
 abbrev pub after_round : {A : Type 0} → HeldTicket → Result A ResolveReply → Point
 after_round ticket (Ok back) = Waiting ticket
 after_round ticket (Err reply) = after_arrival ticket reply
+
+-- nothing was asked where memory was short
+abbrev pub after_refusal : NameAndVariant → Option Root → ResolveReply → Point
+after_refusal path pin replies.NoMemory = Asking path pin
+after_refusal path pin reply = Refused reply
+
+abbrev pub after_asking : NameAndVariant → Option Root → Result Ticket ResolveReply → Point
+after_asking path pin (Ok ticket) = Waiting (ticket_for path ticket)
+after_asking path pin (Err reply) = after_refusal path pin reply
 
 -- ---- what is held after it
 

@@ -29,7 +29,7 @@ pub(crate) fn take<K: Desk, R: Repo>(
     desk: &mut K,
     repo: &mut R,
     buffer: &mut [u8],
-    claim: Claim,
+    mut claim: Claim,
     len: u64,
 ) -> Result<(), Stop>
     requires room { (held_by (K.view desk.old)).claim ≡ Some (record { root = claim.root; len = Some len }) }
@@ -47,7 +47,6 @@ pub(crate) fn take<K: Desk, R: Repo>(
     ensures files { R.files repo.new ≡ R.files repo.old }
     ensures fetches { R.fetches repo.new ≡ R.fetches repo.old }
 {
-    let mut claim = claim;
     let mut left = len;
     loop {
         match pass(desk, repo, buffer, claim, len, left) {

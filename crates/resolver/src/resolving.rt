@@ -1,23 +1,29 @@
 //! A whole resolve.
 
-ghost use Rattle.std.specs.Prelude.{◌≡◌, ◌≢◌, ◌≤◌, ◌++◌, ◌↔◌, ℕ, None, IfSome, All, length};
+ghost use Rattle.std.specs.Prelude.{◌≡◌, ◌++◌, ◌↔◌, ℕ, List, Option, Some, None, IfSome, IfOk, IfErr, All};
 ghost use Rattle.pkg_names.specs.Streams.{RoseBy};
+ghost use Rattle.pkg_names.specs.declared.pinned.Pinned.{Pinned};
+ghost use Rattle.pkg_names.specs.declared.root.Root.{Root};
+ghost use Rattle.repo_source.specs.declared.file.RepoFile.{RepoFile};
+ghost use Rattle.store_model.specs.declared.replies.BeginReply.TheVariants as begin;
 ghost use Rattle.store_model.specs.Desk.{held_by, Stays, KeepsImages};
-ghost use Rattle.store_model.specs.Calls.{HoldsNoClaim};
+ghost use Rattle.store_model.specs.Calls.{HoldsNoClaim, Begins};
 ghost use Rattle.resolver.specs.Serving.{IsChoiceFor, Serves};
+ghost use Rattle.resolver.specs.Serving.Point.{Asking};
 ghost use Rattle.resolver.specs.Counting.{grants, failures, counted};
 ghost use Rattle.resolver.specs.Fetched.{IsListed, Lists, Tells};
 ghost use Rattle.resolver.specs.Viewing.{Agrees, run_of, IsHeldAfter};
-ghost use Rattle.resolver.specs.Steps.{failures_of};
+ghost use Rattle.resolver.specs.Steps.{Goes, after_asking, failures_of};
 
 use crate::reply::ResolveReply;
 use crate::rounds::arrive;
 use package_indexes::Choice;
 use package_url::Url;
+use pkg_names::PackagePath;
 use repo_source::{FindReply, Repo};
 use std::alloc::Global;
 use std::sync::Wait;
-use store_model::{BeginReply, Desk, PIECE_LIMIT};
+use store_model::{BeginReply, Desk, PIECE_LIMIT, Ticket};
 
 /// Brings the package of a URL to the store and opens it. A URL without a pin has its root from the
 /// repository's listing. Each blob that is missing and that no other lane fetches is fetched from the
@@ -58,15 +64,9 @@ pub fn resolve<W: Wait, K: Desk, R: Repo>(
         return ResolveReply::NoMemory;
     };
     let choice = choose(repo, url);
-    match desk.begin(&url.path, choice) {
-        BeginReply::Made(ticket) => arrive(rt, alloc, desk, repo, &mut buffer, ticket),
-        BeginReply::InRecovery => ResolveReply::InRecovery,
-        BeginReply::NotFound => ResolveReply::NotFound,
-        BeginReply::ListingFault => ResolveReply::ListingFault,
-        BeginReply::DiskRead => ResolveReply::DiskRead,
-        BeginReply::Rotten { root, got } => ResolveReply::Rotten { root, got },
-        BeginReply::Broken { number } => ResolveReply::Broken { number },
-        BeginReply::NoMemory => ResolveReply::NoMemory,
+    match ask(desk, &url.path, choice) {
+        Ok(ticket) => arrive(rt, alloc, desk, repo, &mut buffer, ticket),
+        Err(reply) => reply,
     }
 }
 
@@ -86,5 +86,32 @@ fn choose<R: Repo>(repo: &mut R, url: &Url) -> Choice
         FindReply::Found(root) => Choice::Listed(root),
         FindReply::Absent => Choice::Absent,
         FindReply::Failed => Choice::Failed,
+    }
+}
+
+// Asks the store for the package.
+fn ask<K: Desk>(desk: &mut K, path: &PackagePath, choice: Choice) -> Result<Ticket, ResolveReply>
+    ensures goes { (pin : Option Root) (listing : Option (List Pinned)) (files : Option (List RepoFile))
+        (before after : ℕ) → IsChoiceFor pin choice
+        → ((all : List Pinned) → listing ≡ Some all → IsListed all path.now choice)
+        → RoseBy (failures_of choice) before after
+        → Goes 0 (Asking path.now pin) (after_asking path.now pin result) (K.view desk.old) (K.view desk.new)
+        listing files before after }
+    ensures made { IfOk result (λ ticket.
+        Begins path.now choice (begin.Made ticket) (K.view desk.old) (K.view desk.new)) }
+    ensures held { IfErr result (λ reply.
+        IsHeldAfter (K.view desk.old).lane reply (held_by (K.view desk.old)) (held_by (K.view desk.new))) }
+    ensures images { KeepsImages (K.kept desk.old) (K.kept desk.new) }
+    ensures firm { K.firm desk.old ↔ K.firm desk.new }
+{
+    match desk.begin(path, choice) {
+        BeginReply::Made(ticket) => Ok(ticket),
+        BeginReply::InRecovery => Err(ResolveReply::InRecovery),
+        BeginReply::NotFound => Err(ResolveReply::NotFound),
+        BeginReply::ListingFault => Err(ResolveReply::ListingFault),
+        BeginReply::DiskRead => Err(ResolveReply::DiskRead),
+        BeginReply::Rotten { root, got } => Err(ResolveReply::Rotten { root, got }),
+        BeginReply::Broken { number } => Err(ResolveReply::Broken { number }),
+        BeginReply::NoMemory => Err(ResolveReply::NoMemory),
     }
 }

@@ -23,7 +23,7 @@ pub(crate) fn arrive<W: Wait, K: Desk, R: Repo>(
     desk: &mut K,
     repo: &mut R,
     buffer: &mut [u8],
-    ticket: Ticket,
+    mut ticket: Ticket,
 ) -> ResolveReply
     requires ticket { HoldsTicket (K.view desk.old) ticket }
     requires free { HoldsNoClaim (K.view desk.old) }
@@ -39,7 +39,6 @@ pub(crate) fn arrive<W: Wait, K: Desk, R: Repo>(
     ensures listing { R.listing repo.new ≡ R.listing repo.old }
     ensures files { R.files repo.new ≡ R.files repo.old }
 {
-    let mut ticket = ticket;
     for _ in rt.forever() {
         match go_round(alloc, desk, repo, buffer, ticket) {
             Ok(back) => ticket = back,
