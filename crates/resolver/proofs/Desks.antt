@@ -50,8 +50,8 @@ use Rattle.resolver.proofs.Goes.{Fits, as_numbered, fits_act, fits_break, goes_d
 -- ---- a package is asked for
 
 module _ (path : NameAndVariant) (pin : Option Root) (choice : Choice) (listing : Option (List Pinned)) (files : Option (List RepoFile)) (before after : ℕ) where
-  failed_once : (reply : BeginEnd) (seen : List LookedAt) → RoseBy (failures_of choice) before after → RoseBy (cond (is_failure (acts.Begin path choice reply seen)) 1 0 + 0) before after
-  failed_once reply seen rose = elim choice as (λ (c : Choice). RoseBy (failures_of c) before after → RoseBy (cond (is_failure (acts.Begin path c reply seen)) 1 0 + 0) before after) [
+  failed_once : (reply : BeginEnd) (seen : List LookedAt) → RoseBy (failures_of choice) before after → RoseBy (0 + cond (is_failure (acts.Begin path choice reply seen)) 1 0) before after
+  failed_once reply seen rose = elim choice as (λ (c : Choice). RoseBy (failures_of c) before after → RoseBy (0 + cond (is_failure (acts.Begin path c reply seen)) 1 0) before after) [
     | choices.Pinned root ↦ λ h. h
     | choices.Listed root ↦ λ h. h
     | choices.Absent ↦ λ h. h
@@ -63,7 +63,7 @@ module _ (path : NameAndVariant) (pin : Option Root) (choice : Choice) (listing 
       → new.fillers ≡ old.fillers → IsChoiceFor pin choice → ((all : List Pinned) → listing ≡ Some all → IsListed all path choice) → RoseBy (failures_of choice) before after
       → Goes 0 (Asking path pin) (after_begin path pin reply) old new listing files before after
   begun reply end old new does seen is fillers chosen lists rose =
-      goes_does 0 (cond (is_failure (acts.Begin path choice end seen)) 1 0 + 0) (Asking path pin) (after_begin path pin reply) old new (IsBegun path choice reply) listing files before after does fillers
+      goes_does 0 (0 + cond (is_failure (acts.Begin path choice end seen)) 1 0) (Asking path pin) (after_begin path pin reply) old new (IsBegun path choice reply) listing files before after does fillers
       (record { choice = choice; chosen = chosen; reply = reply; event = does.its; leads = refl })
       (fits_act listing files (length (old.seen ++ does.others) + 1) does.event (acts.Begin path choice end seen) is lists (λ all told. tt))
       (failed_once end seen rose)
@@ -259,10 +259,10 @@ module _ (listing : Option (List Pinned)) (files : Option (List RepoFile)) (befo
       → ((all : List RepoFile) → files ≡ Some all → TellsInAct all (acts.Missed root why))
       → Goes 0 from (after_miss ticket why) old new listing files before after
   missed from ticket root why old new follows does fillers rose tells =
-      goes_does 0 (cond (is_failure (acts.Missed root why)) 1 0 + 0) from (after_miss ticket why) old new (IsMissed root why) listing files before after does fillers
+      goes_does 0 (0 + cond (is_failure (acts.Missed root why)) 1 0) from (after_miss ticket why) old new (IsMissed root why) listing files before after does fillers
       (follows (length (old.seen ++ does.others) + 1) does.event (record { why = why; event = does.its; leads = refl }))
       (fits_act listing files (length (old.seen ++ does.others) + 1) does.event (acts.Missed root why) does.its (λ all told. tt) tells)
-      (elim why as (λ (w : Miss). RoseBy (failures_at w) before after → RoseBy (cond (is_failure (acts.Missed root w)) 1 0 + 0) before after) [
+      (elim why as (λ (w : Miss). RoseBy (failures_at w) before after → RoseBy (0 + cond (is_failure (acts.Missed root w)) 1 0) before after) [
         | misses.Absent ↦ λ h. h
         | misses.Read ↦ λ h. h
         | misses.Memory ↦ λ h. h

@@ -15,14 +15,14 @@ use Rattle.resolver.specs.Steps.{IsFront, Fills, IsFilled}
 
 -- what is so where something is told
 pub if_told : {X : Type 0} (o : Option X) (P : X → Type 0) (all : X) → o ≡ Some all → IfSome o P → P all
-if_told o P all told is = let Q : Option X → Type 0 = λ o. IfSome o P in subst Q told is
+if_told {X} o P all told is = let Q : Option X → Type 0 = λ o. IfSome o P in subst Q told is
 
 -- ---- what is declared
 
 -- there is a file, and it has the declared length
-record IsDeclared (found : Option RepoFile) (len : ℕ) : Type 0 where
+record IsDeclared (answer : Option RepoFile) (len : ℕ) : Type 0 where
   file : RepoFile
-  found : found ≡ Some file
+  found : answer ≡ Some file
   declared : file.len ≡ len
 
 declared_file : (found : Option RepoFile) (len : ℕ) → option_map (λ (file : RepoFile). file.len) found ≡ Some len → IsDeclared found len

@@ -49,20 +49,20 @@ as_numbered number e = record { number = number; event = e }
 
 module _ (listing : Option (List Pinned)) (files : Option (List RepoFile)) (number : ℕ) (e : Event) (act : Act) where
   pub fits_act : Acts act e → ((all : List Pinned) → listing ≡ Some all → ListsInAct all act) → ((all : List RepoFile) → files ≡ Some all → TellsInAct all act)
-      → Fits (cond (is_grant act) 1 0 + 0) (cond (is_failure act) 1 0 + 0) listing files (as_numbered number e)
+      → Fits (0 + cond (is_grant act) 1 0) (0 + cond (is_failure act) 1 0) listing files (as_numbered number e)
   fits_act is lists tells = record {
-    grants = ap (λ (a : Act). cond (is_grant a) 1 0 + 0) is.0;
-    failures = ap (λ (a : Act). cond (is_failure a) 1 0 + 0) is.0;
+    grants = ap (λ (a : Act). 0 + cond (is_grant a) 1 0) is.0;
+    failures = ap (λ (a : Act). 0 + cond (is_failure a) 1 0) is.0;
     lists = λ all told. subst (λ (a : Act). ListsInAct all a) (sym is.0) (lists all told);
     tells = λ all told. subst (λ (b : Bool). TellsUnless b all e.act) (sym is.1) (subst (λ (a : Act). TellsInAct all a) (sym is.0) (tells all told));
   }
 
   -- a write failed
   pub fits_break : (broken : ℕ) → Breaks act broken number e → ((all : List Pinned) → listing ≡ Some all → ListsInAct all act)
-      → Fits (cond (is_grant act) 1 0 + 0) (cond (is_failure act) 1 0 + 0) listing files (as_numbered number e)
+      → Fits (0 + cond (is_grant act) 1 0) (0 + cond (is_failure act) 1 0) listing files (as_numbered number e)
   fits_break broken is lists = record {
-    grants = ap (λ (a : Act). cond (is_grant a) 1 0 + 0) is.1;
-    failures = ap (λ (a : Act). cond (is_failure a) 1 0 + 0) is.1;
+    grants = ap (λ (a : Act). 0 + cond (is_grant a) 1 0) is.1;
+    failures = ap (λ (a : Act). 0 + cond (is_failure a) 1 0) is.1;
     lists = λ all told. subst (λ (a : Act). ListsInAct all a) (sym is.1) (lists all told);
     tells = λ all told. subst (λ (b : Bool). TellsUnless b all e.act) (sym is.2) tt;
   }
@@ -163,7 +163,20 @@ goes_then m n a b c v w u listing files x y z h k = record {
 -- the same from a lower count
 pub goes_from : (n : ℕ) (a b : Point) (v w : View) (listing : Option (List Pinned)) (files : Option (List RepoFile)) (x y z : ℕ) → x ≤ y
     → Goes n a b v w listing files y z → Goes n a b v w listing files x z
-goes_from n a b v w listing files x y z le h = record h { faults = lower (failures h.run) h.faults } where
+goes_from n a b v w listing files x y z le h = record {
+  stays = h.stays;
+  fillers = h.fillers;
+  agrees = h.agrees;
+  more = h.more;
+  seen = h.seen;
+  run = h.run;
+  mine = h.mine;
+  leads = h.leads;
+  grants = h.grants;
+  lists = h.lists;
+  tells = h.tells;
+  faults = lower (failures h.run) h.faults;
+} where
   lower : (m : ℕ) → RoseBy m y z → RoseBy m x z
   lower m rose = omega arith
 

@@ -1,6 +1,6 @@
 -- What a lane holds at its desk while it resolves, and what is kept for it.
 use Rattle.std.proofs.Common.{◌≡◌, ℕ, ◌+◌, ◌<◌, Bool, true, false, cond, not, List, [], ◌∷◌, ◌++◌, length, All, Option, Some, None, IsSomeAnd, refl, sym, ap, subst, ◌∙◌, find, inl, inr, arith}
-use Rattle.std.specs.Prelude.{◌==◌, filter}
+use Rattle.std.specs.Prelude.{◌==◌, ◌↔◌}
 use Rattle.std.specs.Option.{option_map}
 use Rattle.std.proofs.lemmas.Bool.{eq-eqb, ne_eqb, cond-true, cond-false}
 use Rattle.std.proofs.lemmas.List.{append-nil}
@@ -98,7 +98,13 @@ resolved path choice ticket reply old mid new does held =
     held ∙ ap (λ (l : ℕ). held_after_arrival l ticket.number reply (held_by mid)) does.stays.lane ∙ ap (held_after_arrival old.lane ticket.number reply) (begun path choice (begin.Made ticket) old mid does) in
     subst (λ (h : Held). IsHeldAfter old.lane reply (held_by old) h) (sym later) (arrived old.lane reply x (held_by old) (other_numbers path choice ticket old mid does))
 
+abbrev pub claim_with : Root → ℕ → Option HeldClaim
+claim_with root len = Some (record { root = root; len = Some len })
+
 -- ---- what is kept
+
+pub iff_then : (A B C : Type 0) → A ↔ B → B ↔ C → A ↔ C
+iff_then A B C h k = (λ a. k.0 (h.0 a), λ c. h.1 (k.1 c))
 
 pub keeps_images : (old new : Kept) → Keeps old new → KeepsImages old new
 keeps_images old new keeps = λ image bytes is. keeps (Image image) bytes is

@@ -3,5 +3,5 @@ pub mod Desks
 pub mod Handles
 pub mod Filling
 pub mod Runs
-pub mod Rounds
+pub mod Arriving
 pub mod Whole

@@ -1,6 +1,7 @@
 -- What the steps of a run have in common, and what that makes of whole runs.
 use Rattle.std.proofs.Common.{inl, inr, ◌≡◌, ◌⊎◌, ℕ, ◌+◌, Bool, true, false, cond, List, [], ◌∷◌, Option, Some, None, IfSome, refl, sym, ap, subst, ◌∙◌, arith}
 use Rattle.std.specs.Prelude.{is_some}
+use Rattle.std.proofs.lemmas.List.Sums.{sum_by-cons}
 use Rattle.pkg_names.specs.NameAndVariant.{NameAndVariant}
 use Rattle.pkg_names.specs.declared.root.Root.{Root}
 use Rattle.package_indexes.specs.declared.Choice.{Choice}
@@ -245,19 +246,26 @@ moves (Refused reply) to number e begun follows = absurd follows
 
 -- ---- runs that have begun
 
+ends-cons : (e : Numbered) (es : List Numbered) → ends (e ∷ es) ≡ cond (is_some (ends_claim_of e.event)) 1 0 + ends es
+ends-cons e es = sum_by-cons (λ (x : Numbered). cond (is_some (ends_claim_of x.event)) 1 0) e es
+
+grants-cons : (e : Numbered) (es : List Numbered) → grants (e ∷ es) ≡ cond (is_grant e.event.act) 1 0 + grants es
+grants-cons e es = sum_by-cons (λ (x : Numbered). cond (is_grant x.event.act) 1 0) e es
+
 later_begins : (from to : Point) (run : List Numbered) → HasBegun from → Leads from run to → begins run ≡ 0
 later_begins from to [] begun leads = refl
 later_begins from to (e ∷ es) begun leads =
     let m = moves from leads.0 e.number e.event begun leads.1 in
-    ap (λ (b : Bool). cond b 1 0 + begins es) m.begin ∙ ap (λ (n : ℕ). 0 + n) (later_begins leads.0 to es m.begun leads.2)
+    sum_by-cons (λ (x : Numbered). cond (is_begin x.event.act) 1 0) e es ∙ ap (λ (b : Bool). cond b 1 0 + begins es) m.begin ∙ ap (λ (n : ℕ). 0 + n) (later_begins leads.0 to es m.begun leads.2)
 
 later_counts : (from to : Point) (run : List Numbered) → HasBegun from → Leads from run to → cond (is_some (claimed to)) 1 0 + ends run ≡ cond (is_some (claimed from)) 1 0 + grants run
 later_counts from to [] begun leads = ap (λ (p : Point). cond (is_some (claimed p)) 1 0 + 0) (sym leads)
 later_counts from to (e ∷ es) begun leads =
     let m = moves from leads.0 e.number e.event begun leads.1 in
-    adds (cond (is_some (claimed from)) 1 0) (cond (is_some (claimed leads.0)) 1 0) (cond (is_some (claimed to)) 1 0) (cond (is_some (ends_claim_of e.event)) 1 0) (cond (is_grant e.event.act) 1 0) (ends es) (grants es) m.count (later_counts leads.0 to es m.begun leads.2) where
-      adds : (a b c x y p q : ℕ) → b + x ≡ a + y → c + p ≡ b + q → c + (x + p) ≡ a + (y + q)
-      adds a b c x y p q h k = omega arith
+    adds (cond (is_some (claimed from)) 1 0) (cond (is_some (claimed leads.0)) 1 0) (cond (is_some (claimed to)) 1 0) (cond (is_some (ends_claim_of e.event)) 1 0) (cond (is_grant e.event.act) 1 0) (ends es) (grants es) (ends (e ∷ es)) (grants (e ∷ es))
+    m.count (later_counts leads.0 to es m.begun leads.2) (ends-cons e es) (grants-cons e es) where
+      adds : (a b c x y p q r s : ℕ) → b + x ≡ a + y → c + p ≡ b + q → r ≡ x + p → s ≡ y + q → c + r ≡ a + s
+      adds a b c x y p q r s h k l m = omega arith
 
 end_or : (o : Option Root) (root : Root) (A B : Type 0) → (A → B) → IsEndOr o root A → IsEndOr o root B
 end_or None root A B f h = f h
@@ -377,13 +385,14 @@ ends_grants path pin (e ∷ es) reply serves =
     let l = serves.leads in
     let f = first path pin l.0 e.number e.event l.1 in
     let rest = later_counts l.0 serves.point es f.begun l.2 in
-    let last : cond (is_some (claimed serves.point)) 1 0 ≡ 0 = ap (λ (o : Option Root). cond (is_some o) 1 0) (no_claim_at serves.point reply serves.replied) in
-    let start : cond (is_some (claimed l.0)) 1 0 ≡ 0 = ap (λ (o : Option Root). cond (is_some o) 1 0) f.free in
-    let ended : cond (is_some (ends_claim_of e.event)) 1 0 ≡ 0 = ap (λ (o : Option Root). cond (is_some o) 1 0) f.ends in
-    let granted : cond (is_grant e.event.act) 1 0 ≡ 0 = ap (λ (b : Bool). cond b 1 0) f.grant in
-    adds _ _ _ _ (ends es) (grants es) last start ended granted rest where
-      adds : (a b x y p q : ℕ) → a ≡ 0 → b ≡ 0 → x ≡ 0 → y ≡ 0 → a + p ≡ b + q → x + p ≡ y + q
-      adds a b x y p q ha hb hx hy h = omega arith
+    let last : cond (is_some (claimed serves.point)) 1 0 ≡ 0 = ap (λ (o : Option Root). let n : ℕ = cond (is_some o) 1 0 in n) (no_claim_at serves.point reply serves.replied) in
+    let start : cond (is_some (claimed l.0)) 1 0 ≡ 0 = ap (λ (o : Option Root). let n : ℕ = cond (is_some o) 1 0 in n) f.free in
+    let ended : cond (is_some (ends_claim_of e.event)) 1 0 ≡ 0 = ap (λ (o : Option Root). let n : ℕ = cond (is_some o) 1 0 in n) f.ends in
+    let granted : cond (is_grant e.event.act) 1 0 ≡ 0 = ap (λ (b : Bool). let n : ℕ = cond b 1 0 in n) f.grant in
+    adds (cond (is_some (claimed serves.point)) 1 0) (cond (is_some (claimed l.0)) 1 0) (cond (is_some (ends_claim_of e.event)) 1 0) (cond (is_grant e.event.act) 1 0) (ends es) (grants es) (ends (e ∷ es)) (grants (e ∷ es))
+    last start ended granted rest (ends-cons e es) (grants-cons e es) where
+      adds : (a b x y p q r s : ℕ) → a ≡ 0 → b ≡ 0 → x ≡ 0 → y ≡ 0 → a + p ≡ b + q → r ≡ x + p → s ≡ y + q → r ≡ s
+      adds a b x y p q r s ha hb hx hy h k l = omega arith
 
 -- each grant has its end
 pub grants_end : (path : NameAndVariant) (pin : Option Root) (run : List Numbered) (reply : ResolveReply) → Serves path pin run reply → AreEnded run

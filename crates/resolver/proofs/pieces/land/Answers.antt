@@ -39,10 +39,11 @@ pub returns-in-Broken-clause-held : goal.returns-in-Broken-clause-held
 returns-in-Broken-clause-held g c = landed c.args.claim (g.K.Desk.kept c.args.desk.now) (land.Broken c.in-Broken.number) _ _ c.in-Broken.ensures.event
 
 pub miss-requires : goal.miss-requires
-miss-requires g c =
-    claim_stays (g.K.Desk.view c.args.desk.now) (g.K.Desk.view c.land.new.self) c.in-NoMemory.claim c.args.claim
-    (landed c.args.claim (g.K.Desk.kept c.args.desk.now) (land.NoMemory c.in-NoMemory.claim) _ _ c.in-NoMemory.ensures.event) c.in-NoMemory.ensures.event.1
-    (room_held (g.K.Desk.view c.args.desk.now) c.args.claim.root c.requires)
+miss-requires g c = record {
+    holds = claim_stays (g.K.Desk.view c.args.desk.now) (g.K.Desk.view c.land.new.self) c.in-NoMemory.claim c.args.claim
+        (landed c.args.claim (g.K.Desk.kept c.args.desk.now) (land.NoMemory c.in-NoMemory.claim) _ _ c.in-NoMemory.ensures.event) c.in-NoMemory.ensures.event.1
+        (room_held (g.K.Desk.view c.args.desk.now) c.args.claim.root c.requires);
+}
 
 pub returns-in-NoMemory-clause-goes : goal.returns-in-NoMemory-clause-goes
 returns-in-NoMemory-clause-goes g c = λ t listing files faults filled.

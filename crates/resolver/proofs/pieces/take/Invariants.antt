@@ -6,8 +6,8 @@ use Rattle.resolver.specs.Serving.Point.{Roomy}
 use Rattle.resolver.specs.Steps.{Goes, Fills}
 use Rattle.resolver.proofs.pieces.take.Given as goal
 
-abbrev pub invariant-loop : goal.invariant-loop
-invariant-loop g l = record {
+abbrev pub invariant-loop-back : goal.invariant-loop-back
+invariant-loop-back g l = record {
   root : l.claim.root ≡ l.initial.claim.root;
   fills : Fills (g.K.Desk.kept l.desk) (g.R.Repo.files l.initial.repo) l.initial.claim.root (g.R.Repo.reading l.repo) l.len l.left;
   goes : (t : HeldTicket) → Goes 0 (Roomy t l.initial.claim.root l.len) (Roomy t l.initial.claim.root l.len) (g.K.Desk.view l.initial.desk) (g.K.Desk.view l.desk)
@@ -21,5 +21,5 @@ invariant-loop g l = record {
   open_ : g.R.Repo.is_open l.repo ≡ true;
 }
 
-abbrev pub decreases-loop : goal.decreases-loop
-decreases-loop g l = l.left
+abbrev pub decreases-loop-back : goal.decreases-loop-back
+decreases-loop-back g l = l.left

@@ -4,7 +4,7 @@ use Rattle.store_model.proofs.CallsHeld.{wanted}
 use Rattle.resolver.specs.Serving.{ticket_for}
 use Rattle.resolver.specs.Serving.Point.{Refused, Opened}
 use Rattle.resolver.specs.declared.reply.ResolveReply.TheVariants as replies
-use Rattle.resolver.proofs.Rounds.{holds_no_memory, claim_granted, holds_fetched, held_fetched, held_waited, held_cut, held_stopped, round_over, round_waited, round_cut, round_fetched, round_stopped}
+use Rattle.resolver.proofs.Arriving.{holds_no_memory, claim_granted, holds_fetched, held_fetched, held_waited, held_cut, held_stopped, round_over, round_waited, round_cut, round_fetched, round_stopped}
 use Rattle.resolver.proofs.Handles.{images_then, keeps_images}
 use Rattle.resolver.proofs.rounds.go_round.Goals as goal
 
@@ -45,7 +45,7 @@ returns-in-NotYet-clause-held g c =
     held_waited c.args.ticket _ (g.K.Desk.view c.want.new.self) c.in-NotYet.ticket c.in-NotYet.bell _ c.in-NotYet.ensures.event c.pause.ensures.none
 
 pub give_up-requires : goal.give_up-requires
-give_up-requires g c = holds_no_memory c.args.ticket _ _ c.in-NoMemory.ticket c.in-NoMemory.ensures.event c.requires.ticket
+give_up-requires g c = record { holds = holds_no_memory c.args.ticket _ _ c.in-NoMemory.ticket c.in-NoMemory.ensures.event c.requires.ticket }
 
 pub returns-in-NoMemory-clause-goes : goal.returns-in-NoMemory-clause-goes
 returns-in-NoMemory-clause-goes g c = λ path.
@@ -77,7 +77,7 @@ returns-in-Ok-clause-held g c =
     held_fetched c.args.ticket _ (g.K.Desk.view c.want.new.self) c.in-Fetch.ticket c.in-Fetch.claim _ c.in-Fetch.ensures.event c.in-Ok.ensures.held c.requires.free
 
 pub give_up-in-Err-requires : goal.give_up-in-Err-requires
-give_up-in-Err-requires g c = holds_fetched c.args.ticket _ (g.K.Desk.view c.want.new.self) c.in-Fetch.ticket c.in-Fetch.claim _ c.in-Fetch.ensures.event c.in-Err.ensures.held c.requires.ticket
+give_up-in-Err-requires g c = record { holds = holds_fetched c.args.ticket _ (g.K.Desk.view c.want.new.self) c.in-Fetch.ticket c.in-Fetch.claim _ c.in-Fetch.ensures.event c.in-Err.ensures.held c.requires.ticket }
 
 pub returns-in-Err-clause-goes : goal.returns-in-Err-clause-goes
 returns-in-Err-clause-goes g c = λ path.
