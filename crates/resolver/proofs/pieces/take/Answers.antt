@@ -23,6 +23,20 @@ pass-requires g c =
       few = omega (arith, c.loop-back.auto.buffer, c.requires.few);
     }
 
+pub loop-back-init : goal.loop-back-init
+loop-back-init g c = record {
+  root = refl;
+  fills = c.requires.fills;
+  goes = λ t. goes_none (Roomy t c.args.claim.root c.args.len) (g.K.Desk.view c.args.desk.now) (g.R.Repo.listing c.args.repo.now) (g.R.Repo.files c.args.repo.now) (g.R.Repo.faults c.args.repo.now) (g.R.Repo.faults c.args.repo.now) (rose_same (g.R.Repo.faults c.args.repo.now));
+  held = refl;
+  images = λ image bytes is. is;
+  firm = (λ is. is, λ is. is);
+  listing = refl;
+  files = refl;
+  fetches = refl;
+  open_ = c.requires.open;
+}
+
 pub loop-back-preserved : goal.loop-back-preserved
 loop-back-preserved g c =
     let i = c.loop-back.invariant in
@@ -40,7 +54,7 @@ loop-back-preserved g c =
           goes_on 0 0 (Roomy t root c.args.len) (Roomy t root c.args.len) (Roomy t root c.args.len) old mid new _ _ _ _ _ _ _ (i.goes t) i.listing i.files
           (subst (λ (r : Root). Goes 0 (Roomy t r c.args.len) (Roomy t r c.args.len) mid new (g.R.Repo.listing c.loop-back.repo) (g.R.Repo.files c.loop-back.repo) (g.R.Repo.faults c.loop-back.repo) (g.R.Repo.faults c.pass.new.repo)) i.root (e.goes t));
       held = e.held ∙ i.held;
-      images = images_then _ _ _ i.images e.images;
+      images = images_then (g.K.Desk.kept c.args.desk.now) (g.K.Desk.kept c.loop-back.desk) (g.K.Desk.kept c.pass.new.desk) i.images e.images;
       firm = iff_then _ _ _ i.firm e.firm;
       listing = e.listing ∙ i.listing;
       files = e.files ∙ i.files;
@@ -59,6 +73,12 @@ returns-in-Last-clause-goes g c = λ t.
     let to = after_fetch t c.in-Last.result in
     goes_on 0 0 (Roomy t root c.args.len) (Roomy t root c.args.len) to old mid new _ _ _ _ _ _ _ (i.goes t) i.listing i.files
     (subst (λ (r : Root). Goes 0 (Roomy t r c.args.len) to mid new (g.R.Repo.listing c.loop-back.repo) (g.R.Repo.files c.loop-back.repo) (g.R.Repo.faults c.loop-back.repo) (g.R.Repo.faults c.pass.new.repo)) i.root (e.goes t))
+
+pub returns-in-Last-clause-images : goal.returns-in-Last-clause-images
+returns-in-Last-clause-images g c = images_then (g.K.Desk.kept c.args.desk.now) (g.K.Desk.kept c.loop-back.desk) (g.K.Desk.kept c.pass.new.desk) c.loop-back.invariant.images c.in-Last.ensures.images
+
+pub returns-in-Last-clause-firm : goal.returns-in-Last-clause-firm
+returns-in-Last-clause-firm g c = iff_then _ _ _ c.loop-back.invariant.firm c.in-Last.ensures.firm
 
 pub returns-in-Last-clause-held : goal.returns-in-Last-clause-held
 returns-in-Last-clause-held g c = c.in-Last.ensures.held ∙ ap without_claim c.loop-back.invariant.held

@@ -21,6 +21,24 @@ go_round-requires g c =
       few = omega (arith, c.loop.auto.buffer, c.requires.few);
     }
 
+pub loop-init : goal.loop-init
+loop-init g c = record {
+  next = tt;
+  finite = tt;
+  same = refl;
+  goes = λ path. record {
+    granted = 0;
+    goes = goes_none (Waiting (ticket_for path c.args.ticket)) (g.K.Desk.view c.args.desk.now) (g.R.Repo.listing c.args.repo.now) (g.R.Repo.files c.args.repo.now) (g.R.Repo.faults c.args.repo.now) (g.R.Repo.faults c.args.repo.now) (rose_same (g.R.Repo.faults c.args.repo.now));
+    fetches = refl;
+  };
+  held = refl;
+  lane = refl;
+  images = λ image bytes is. is;
+  firm = (λ is. is, λ is. is);
+  listing = refl;
+  files = refl;
+}
+
 pub loop-preserved : goal.loop-preserved
 loop-preserved g c =
     let i = c.loop.invariant in
@@ -37,7 +55,7 @@ loop-preserved g c =
           (subst (λ (t : Ticket). Fetches (Waiting (ticket_for path t)) (Waiting (ticket_for path t)) mid new (g.R.Repo.listing c.loop.repo) (g.R.Repo.files c.loop.repo) (g.R.Repo.faults c.loop.repo) (g.R.Repo.faults c.go_round.new.repo) (g.R.Repo.fetches c.loop.repo) (g.R.Repo.fetches c.go_round.new.repo)) i.same (e.goes path));
       held = e.held ∙ i.held;
       lane = (e.goes (record { name = []; variant = [] })).goes.stays.lane ∙ i.lane;
-      images = images_then _ _ _ i.images e.images;
+      images = images_then (g.K.Desk.kept c.args.desk.now) (g.K.Desk.kept c.loop.desk) (g.K.Desk.kept c.go_round.new.desk) i.images e.images;
       firm = iff_then _ _ _ i.firm e.firm;
       listing = e.listing ∙ i.listing;
       files = e.files ∙ i.files;
@@ -54,6 +72,12 @@ returns-in-Err-clause-goes g c = λ path.
     let to = after_arrival (ticket_for path c.args.ticket) c.in-Err.reply in
     fetches_on w w to old mid new _ _ _ _ _ _ _ _ _ _ (i.goes path) i.listing i.files
     (subst (λ (t : Ticket). Fetches (Waiting (ticket_for path t)) (after_arrival (ticket_for path t) c.in-Err.reply) mid new (g.R.Repo.listing c.loop.repo) (g.R.Repo.files c.loop.repo) (g.R.Repo.faults c.loop.repo) (g.R.Repo.faults c.go_round.new.repo) (g.R.Repo.fetches c.loop.repo) (g.R.Repo.fetches c.go_round.new.repo)) i.same (e.goes path))
+
+pub returns-in-Err-clause-images : goal.returns-in-Err-clause-images
+returns-in-Err-clause-images g c = images_then (g.K.Desk.kept c.args.desk.now) (g.K.Desk.kept c.loop.desk) (g.K.Desk.kept c.go_round.new.desk) c.loop.invariant.images c.in-Err.ensures.images
+
+pub returns-in-Err-clause-firm : goal.returns-in-Err-clause-firm
+returns-in-Err-clause-firm g c = iff_then _ _ _ c.loop.invariant.firm c.in-Err.ensures.firm
 
 pub returns-in-Err-clause-held : goal.returns-in-Err-clause-held
 returns-in-Err-clause-held g c =

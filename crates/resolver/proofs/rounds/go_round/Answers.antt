@@ -42,7 +42,7 @@ returns-in-NotYet-clause-goes g c = λ path.
 
 pub returns-in-NotYet-clause-held : goal.returns-in-NotYet-clause-held
 returns-in-NotYet-clause-held g c =
-    held_waited c.args.ticket _ (g.K.Desk.view c.want.new.self) c.in-NotYet.ticket c.in-NotYet.bell _ c.in-NotYet.ensures.event c.pause.ensures.none
+    held_waited c.args.ticket _ (g.K.Desk.view c.want.new.self) c.in-NotYet.ticket c.in-NotYet.bell (g.K.Desk.view c.pause.new.self) c.in-NotYet.ensures.event c.pause.ensures.none
 
 pub give_up-requires : goal.give_up-requires
 give_up-requires g c = record { holds = holds_no_memory c.args.ticket _ _ c.in-NoMemory.ticket c.in-NoMemory.ensures.event c.requires.ticket }
@@ -54,7 +54,7 @@ returns-in-NoMemory-clause-goes g c = λ path.
 
 pub returns-in-NoMemory-clause-held : goal.returns-in-NoMemory-clause-held
 returns-in-NoMemory-clause-held g c =
-    held_cut c.args.ticket _ (g.K.Desk.view c.want.new.self) c.in-NoMemory.ticket _ c.in-NoMemory.ensures.event c.give_up.ensures.event
+    held_cut c.args.ticket _ (g.K.Desk.view c.want.new.self) c.in-NoMemory.ticket (g.K.Desk.view c.give_up.new.self) c.in-NoMemory.ensures.event c.give_up.ensures.event
 
 pub fetch-requires : goal.fetch-requires
 fetch-requires g c = record {
@@ -74,10 +74,10 @@ returns-in-Ok-clause-goes g c = λ path.
 
 pub returns-in-Ok-clause-held : goal.returns-in-Ok-clause-held
 returns-in-Ok-clause-held g c =
-    held_fetched c.args.ticket _ (g.K.Desk.view c.want.new.self) c.in-Fetch.ticket c.in-Fetch.claim _ c.in-Fetch.ensures.event c.in-Ok.ensures.held c.requires.free
+    held_fetched c.args.ticket _ (g.K.Desk.view c.want.new.self) c.in-Fetch.ticket c.in-Fetch.claim (g.K.Desk.view c.fetch.new.desk) c.in-Fetch.ensures.event c.in-Ok.ensures.held c.requires.free
 
-pub give_up-in-Err-requires : goal.give_up-in-Err-requires
-give_up-in-Err-requires g c = record { holds = holds_fetched c.args.ticket _ (g.K.Desk.view c.want.new.self) c.in-Fetch.ticket c.in-Fetch.claim _ c.in-Fetch.ensures.event c.in-Err.ensures.held c.requires.ticket }
+pub give_up-requires-in-Err : goal.give_up-requires-in-Err
+give_up-requires-in-Err g c = record { holds = holds_fetched c.args.ticket _ (g.K.Desk.view c.want.new.self) c.in-Fetch.ticket c.in-Fetch.claim (g.K.Desk.view c.fetch.new.desk) c.in-Fetch.ensures.event c.in-Err.ensures.held c.requires.ticket }
 
 pub returns-in-Err-clause-goes : goal.returns-in-Err-clause-goes
 returns-in-Err-clause-goes g c = λ path.
@@ -86,5 +86,5 @@ returns-in-Err-clause-goes g c = λ path.
 
 pub returns-in-Err-clause-held : goal.returns-in-Err-clause-held
 returns-in-Err-clause-held g c =
-    held_stopped c.args.ticket _ (g.K.Desk.view c.want.new.self) c.in-Fetch.ticket c.in-Fetch.claim (g.K.Desk.view c.fetch.new.desk) _ c.in-Err.stop c.reply.result
+    held_stopped c.args.ticket _ (g.K.Desk.view c.want.new.self) c.in-Fetch.ticket c.in-Fetch.claim (g.K.Desk.view c.fetch.new.desk) (g.K.Desk.view c.give_up-in-Err.new.self) c.in-Err.stop c.reply.result
     c.reply.ensures c.in-Fetch.ensures.event c.in-Err.ensures.held c.requires.free c.give_up-in-Err.ensures.event
