@@ -1,18 +1,18 @@
 //! A whole resolve.
 
-ghost use Rattle.std.specs.Prelude.{◌≡◌, ◌++◌, ◌↔◌, ℕ, List, Option, Some, None, IfSome, IfOk, IfErr, All};
+ghost use Rattle.std.specs.Prelude.{◌≡◌, ◌<◌, ◌≤◌, ◌↔◌, ℕ, List, length, Option, Some, None, IfSome, IfOk, IfErr};
 ghost use Rattle.pkg_names.specs.Streams.{RoseBy};
 ghost use Rattle.pkg_names.specs.declared.pinned.Pinned.{Pinned};
 ghost use Rattle.pkg_names.specs.declared.root.Root.{Root};
 ghost use Rattle.repo_source.specs.declared.file.RepoFile.{RepoFile};
+ghost use Rattle.store_model.specs.declared.ends.TheConstants.{PIECE_LIMIT};
 ghost use Rattle.store_model.specs.declared.replies.BeginReply.TheVariants as begin;
-ghost use Rattle.store_model.specs.Desk.{held_by, Stays, KeepsImages};
+ghost use Rattle.store_model.specs.Desk.{held_by, KeepsImages};
 ghost use Rattle.store_model.specs.Calls.{HoldsNoClaim, Begins};
-ghost use Rattle.resolver.specs.Serving.{IsChoiceFor, Serves};
+ghost use Rattle.resolver.specs.Serving.{IsChoiceFor};
 ghost use Rattle.resolver.specs.Serving.Point.{Asking};
-ghost use Rattle.resolver.specs.Counting.{grants, failures, counted};
-ghost use Rattle.resolver.specs.Fetched.{IsListed, Lists, Tells};
-ghost use Rattle.resolver.specs.Viewing.{Agrees, run_of, IsHeldAfter};
+ghost use Rattle.resolver.specs.Fetched.{IsListed};
+ghost use Rattle.resolver.specs.Viewing.{IsHeldAfter, Resolves};
 ghost use Rattle.resolver.specs.Steps.{Goes, after_asking, failures_of};
 
 use crate::reply::ResolveReply;
@@ -38,34 +38,43 @@ pub fn resolve<W: Wait, K: Desk, R: Repo>(
 ) -> ResolveReply
     requires no_file { url.now.file ≡ None }
     requires free { HoldsNoClaim (K.view desk.old) }
-
-    // The lane's events of this call are one run that resolves the package, and the reply is its own.
-    ensures stays { Stays (K.view desk.old) (K.view desk.new) }
-    ensures grows { (K.view desk.new).mine ≡ (K.view desk.old).mine ++ run_of (K.view desk.old) (K.view desk.new) }
-    ensures serves { Serves url.now.path url.now.pin (run_of (K.view desk.old) (K.view desk.new)) result }
-    ensures agrees { Agrees (K.view desk.old) → Agrees (K.view desk.new) }
-
-    // What it leaves with the lane.
-    ensures held { IsHeldAfter (K.view desk.old).lane result (held_by (K.view desk.old)) (held_by (K.view desk.new)) }
+    ensures run { Resolves url.now.path url.now.pin result (K.view desk.old) (K.view desk.new)
+        (R.listing repo.old) (R.files repo.old) (R.faults repo.old) (R.faults repo.new)
+        (R.fetches repo.old) (R.fetches repo.new) }
     ensures images { KeepsImages (K.kept desk.old) (K.kept desk.new) }
-    ensures fillers { (K.view desk.new).fillers ≡ (K.view desk.old).fillers }
     ensures firm { K.firm desk.old ↔ K.firm desk.new }
-
-    // What the repository has to do with it.
-    ensures fetches { R.fetches repo.new
-        ≡ counted (grants (run_of (K.view desk.old) (K.view desk.new))) (R.fetches repo.old) }
-    ensures listed { IfSome (R.listing repo.old) (λ all. All (Lists all) (run_of (K.view desk.old) (K.view desk.new))) }
-    ensures fetched { IfSome (R.files repo.old) (λ all. All (Tells all) (run_of (K.view desk.old) (K.view desk.new))) }
-    ensures faults { RoseBy (failures (run_of (K.view desk.old) (K.view desk.new))) (R.faults repo.old) (R.faults repo.new) }
     ensures listing { R.listing repo.new ≡ R.listing repo.old }
     ensures files { R.files repo.new ≡ R.files repo.old }
 {
-    let Ok(mut buffer) = vec![in alloc; 0u8; PIECE_LIMIT] else {
-        return ResolveReply::NoMemory;
-    };
+    match vec![in alloc; 0u8; PIECE_LIMIT] {
+        Ok(mut buffer) => resolve_by(rt, alloc, desk, repo, &mut buffer, url),
+        Err(_) => ResolveReply::NoMemory,
+    }
+}
+
+// The same, with its buffer.
+fn resolve_by<W: Wait, K: Desk, R: Repo>(
+    rt: &W,
+    alloc: Global,
+    desk: &mut K,
+    repo: &mut R,
+    buffer: &mut [u8],
+    url: &Url,
+) -> ResolveReply
+    requires free { HoldsNoClaim (K.view desk.old) }
+    requires some { 0 < length buffer.old }
+    requires few { length buffer.old ≤ PIECE_LIMIT }
+    ensures run { Resolves url.now.path url.now.pin result (K.view desk.old) (K.view desk.new)
+        (R.listing repo.old) (R.files repo.old) (R.faults repo.old) (R.faults repo.new)
+        (R.fetches repo.old) (R.fetches repo.new) }
+    ensures images { KeepsImages (K.kept desk.old) (K.kept desk.new) }
+    ensures firm { K.firm desk.old ↔ K.firm desk.new }
+    ensures listing { R.listing repo.new ≡ R.listing repo.old }
+    ensures files { R.files repo.new ≡ R.files repo.old }
+{
     let choice = choose(repo, url);
     match ask(desk, &url.path, choice) {
-        Ok(ticket) => arrive(rt, alloc, desk, repo, &mut buffer, ticket),
+        Ok(ticket) => arrive(rt, alloc, desk, repo, buffer, ticket),
         Err(reply) => reply,
     }
 }

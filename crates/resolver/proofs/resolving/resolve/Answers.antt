@@ -1,127 +1,24 @@
-use Rattle.std.proofs.Common.{◌≡◌, List, Option, Some, refl, sym, ap, subst, ◌∙◌}
-use Rattle.pkg_names.specs.declared.pinned.Pinned.{Pinned}
-use Rattle.store_model.specs.Holding.{Held}
-use Rattle.store_model.specs.declared.replies.BeginReply.TheVariants as begin
-use Rattle.store_model.proofs.CallsHeld.{begun}
-use Rattle.store_model.proofs.CallsHandles.{ticket_made}
+use Rattle.std.proofs.Common.{refl}
 use Rattle.resolver.specs.declared.reply.ResolveReply.TheVariants as replies
-use Rattle.resolver.specs.Fetched.{IsListed}
-use Rattle.resolver.specs.Serving.{ticket_for}
-use Rattle.resolver.specs.Serving.Point.{Asking, Waiting}
-use Rattle.resolver.specs.Steps.{Goes, after_refusal, after_arrival}
-use Rattle.resolver.proofs.Goes.{goes_none, fetches_on, rose_same}
-use Rattle.resolver.proofs.Filling.{if_told}
-use Rattle.resolver.proofs.Whole.{whole, alone, reply_refused, reply_arrived}
-use Rattle.resolver.proofs.Handles.{resolved, images_then, iff_then}
+use Rattle.resolver.specs.Serving.Point.{Asking}
+use Rattle.resolver.proofs.Goes.{goes_none, rose_same}
+use Rattle.resolver.proofs.Whole.{whole, alone}
 use Rattle.resolver.proofs.resolving.resolve.Goals as goal
-
-pub returns-in_default : goal.returns-in_default
-returns-in_default g c =
-    let v = g.K.Desk.view c.args.desk.now in
-    let path = c.args.url.now.path in
-    let pin = c.args.url.now.pin in
-    let listing = g.R.Repo.listing c.args.repo.now in
-    let files = g.R.Repo.files c.args.repo.now in
-    let x = g.R.Repo.faults c.args.repo.now in
-    let p = g.R.Repo.fetches c.args.repo.now in
-    let goes = goes_none (Asking path pin) v listing files x x (rose_same x) in
-    let w = whole path pin (Asking path pin) replies.NoMemory v v listing files x x p p (alone (Asking path pin) (Asking path pin) v v listing files x x p p refl goes) refl in
-    record {
-      stays = goes.stays;
-      grows = w.grows;
-      serves = w.serves;
-      agrees = λ agree. agree;
-      held = refl;
-      images = λ image bytes is. is;
-      fillers = refl;
-      firm = (λ is. is, λ is. is);
-      fetches = w.fetches;
-      listed = w.listed;
-      fetched = w.fetched;
-      faults = w.faults;
-      listing = refl;
-      files = refl;
-    }
-
-pub arrive-requires : goal.arrive-requires
-arrive-requires g c = record {
-  ticket = ticket_made c.args.url.now.path c.choose.result c.in-Ok-ask.ticket _ _ c.in-Ok-ask.ensures.made;
-  free = ap (λ (h : Held). h.claim) (begun c.args.url.now.path c.choose.result (begin.Made c.in-Ok-ask.ticket) _ _ c.in-Ok-ask.ensures.made) ∙ c.requires.free;
-  some = ?;
-  few = ?;
-}
-
-pub returns-in-Ok-ask : goal.returns-in-Ok-ask
-returns-in-Ok-ask g c =
-    let v = g.K.Desk.view c.args.desk.now in
-    let m = g.K.Desk.view c.ask.new.desk in
-    let u = g.K.Desk.view c.arrive.new.desk in
-    let path = c.args.url.now.path in
-    let pin = c.args.url.now.pin in
-    let choice = c.choose.result in
-    let reply = c.arrive.result in
-    let t = ticket_for path c.in-Ok-ask.ticket in
-    let listing = g.R.Repo.listing c.args.repo.now in
-    let files = g.R.Repo.files c.args.repo.now in
-    let listing_now = g.R.Repo.listing c.choose.new.repo in
-    let files_now = g.R.Repo.files c.choose.new.repo in
-    let x = g.R.Repo.faults c.args.repo.now in
-    let y = g.R.Repo.faults c.choose.new.repo in
-    let z = g.R.Repo.faults c.arrive.new.repo in
-    let p = g.R.Repo.fetches c.args.repo.now in
-    let q = g.R.Repo.fetches c.choose.new.repo in
-    let r = g.R.Repo.fetches c.arrive.new.repo in
-    let first = c.in-Ok-ask.ensures.goes pin listing files x y c.choose.ensures.chosen (λ all told. if_told listing (λ all. IsListed all path choice) all told c.choose.ensures.listed) c.choose.ensures.faults in
-    let all = fetches_on (Asking path pin) (Waiting t) (after_arrival t reply) v m u listing listing_now files files_now x y z p q r
-        (alone (Asking path pin) (Waiting t) v m listing files x y p q c.choose.ensures.fetches first) c.choose.ensures.listing c.choose.ensures.files (c.arrive.ensures.goes path) in
-    let w = whole path pin (after_arrival t reply) reply v u listing files x z p r all (reply_arrived t reply) in
-    record {
-      stays = all.goes.stays;
-      grows = w.grows;
-      serves = w.serves;
-      agrees = all.goes.agrees;
-      held = resolved path choice c.in-Ok-ask.ticket reply v m u c.in-Ok-ask.ensures.made c.arrive.ensures.held;
-      images = images_then _ _ _ c.in-Ok-ask.ensures.images c.arrive.ensures.images;
-      fillers = all.goes.fillers;
-      firm = iff_then _ _ _ c.in-Ok-ask.ensures.firm c.arrive.ensures.firm;
-      fetches = w.fetches;
-      listed = w.listed;
-      fetched = w.fetched;
-      faults = w.faults;
-      listing = c.arrive.ensures.listing ∙ c.choose.ensures.listing;
-      files = c.arrive.ensures.files ∙ c.choose.ensures.files;
-    }
 
 pub returns-in-Err : goal.returns-in-Err
 returns-in-Err g c =
     let v = g.K.Desk.view c.args.desk.now in
-    let m = g.K.Desk.view c.ask.new.desk in
     let path = c.args.url.now.path in
     let pin = c.args.url.now.pin in
-    let choice = c.choose.result in
-    let reply = c.in-Err.reply in
-    let to = after_refusal path pin reply in
     let listing = g.R.Repo.listing c.args.repo.now in
     let files = g.R.Repo.files c.args.repo.now in
     let x = g.R.Repo.faults c.args.repo.now in
-    let y = g.R.Repo.faults c.choose.new.repo in
     let p = g.R.Repo.fetches c.args.repo.now in
-    let q = g.R.Repo.fetches c.choose.new.repo in
-    let first = c.in-Err.ensures.goes pin listing files x y c.choose.ensures.chosen (λ all told. if_told listing (λ all. IsListed all path choice) all told c.choose.ensures.listed) c.choose.ensures.faults in
-    let w = whole path pin to reply v m listing files x y p q (alone (Asking path pin) to v m listing files x y p q c.choose.ensures.fetches first) (reply_refused path pin reply) in
+    let start = Asking path pin in
     record {
-      stays = first.stays;
-      grows = w.grows;
-      serves = w.serves;
-      agrees = first.agrees;
-      held = c.in-Err.ensures.held;
-      images = c.in-Err.ensures.images;
-      fillers = first.fillers;
-      firm = c.in-Err.ensures.firm;
-      fetches = w.fetches;
-      listed = w.listed;
-      fetched = w.fetched;
-      faults = w.faults;
-      listing = c.choose.ensures.listing;
-      files = c.choose.ensures.files;
+      run = whole path pin start replies.NoMemory v v listing files x x p p (alone start start v v listing files x x p p refl (goes_none start v listing files x x (rose_same x))) refl refl;
+      images = λ image bytes is. is;
+      firm = (λ is. is, λ is. is);
+      listing = refl;
+      files = refl;
     }
