@@ -159,7 +159,7 @@ Leads from (e ∷ es) to = (next : Point) × Follows from e.number e.event next 
 
 -- ---- one run
 
--- What is replied there; nothing while something is held. A run without an event was cut before its first one.
+-- What is replied there; nothing while something is held. A run without an event was cut before its first.
 abbrev pub reply_at : Point → Option ResolveReply
 reply_at (Asking path pin) = Some replies.NoMemory
 reply_at (Waiting ticket) = None

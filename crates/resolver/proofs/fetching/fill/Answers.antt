@@ -35,9 +35,9 @@ returns-in-Broken-clause-held g c = roomed c.args.claim c.args.len (room.Broken 
 
 pub miss-requires : goal.miss-requires
 miss-requires g c = record {
-    holds = claim_stays (g.K.Desk.view c.args.desk.now) (g.K.Desk.view c.room.new.self) c.in-NoMemory.claim c.args.claim
-        (roomed c.args.claim c.args.len (room.NoMemory c.in-NoMemory.claim) _ _ c.in-NoMemory.ensures.event) c.in-NoMemory.ensures.event.1
-        (claim_held (g.K.Desk.view c.args.desk.now) c.args.claim.root _ c.requires.claim);
+  holds = claim_stays (g.K.Desk.view c.args.desk.now) (g.K.Desk.view c.room.new.self) c.in-NoMemory.claim c.args.claim
+      (roomed c.args.claim c.args.len (room.NoMemory c.in-NoMemory.claim) _ _ c.in-NoMemory.ensures.event) c.in-NoMemory.ensures.event.1
+      (claim_held (g.K.Desk.view c.args.desk.now) c.args.claim.root _ c.requires.claim);
 }
 
 pub returns-in-NoMemory-clause-goes : goal.returns-in-NoMemory-clause-goes

@@ -40,9 +40,9 @@ returns-in-Broken-clause-held g c = landed c.args.claim (g.K.Desk.kept c.args.de
 
 pub miss-requires : goal.miss-requires
 miss-requires g c = record {
-    holds = claim_stays (g.K.Desk.view c.args.desk.now) (g.K.Desk.view c.land.new.self) c.in-NoMemory.claim c.args.claim
-        (landed c.args.claim (g.K.Desk.kept c.args.desk.now) (land.NoMemory c.in-NoMemory.claim) _ _ c.in-NoMemory.ensures.event) c.in-NoMemory.ensures.event.1
-        (room_held (g.K.Desk.view c.args.desk.now) c.args.claim.root c.requires);
+  holds = claim_stays (g.K.Desk.view c.args.desk.now) (g.K.Desk.view c.land.new.self) c.in-NoMemory.claim c.args.claim
+      (landed c.args.claim (g.K.Desk.kept c.args.desk.now) (land.NoMemory c.in-NoMemory.claim) _ _ c.in-NoMemory.ensures.event) c.in-NoMemory.ensures.event.1
+      (room_held (g.K.Desk.view c.args.desk.now) c.args.claim.root c.requires);
 }
 
 pub returns-in-NoMemory-clause-goes : goal.returns-in-NoMemory-clause-goes

@@ -44,7 +44,7 @@ returns-in-Ok g c =
     let r = g.R.Repo.fetches c.arrive.new.repo in
     let first = c.in-Ok.ensures.goes pin listing files x y c.choose-choice.ensures.chosen (λ all told. if_told listing (λ all. IsListed all path choice) all told c.choose-choice.ensures.listed) c.choose-choice.ensures.faults in
     let all = fetches_on (Asking path pin) (Waiting t) (after_arrival t reply) v m u listing listing_now files files_now x y z p q r
-        (alone (Asking path pin) (Waiting t) v m listing files x y p q c.choose-choice.ensures.fetches first) c.choose-choice.ensures.listing c.choose-choice.ensures.files (c.arrive.ensures.goes path) in
+    (alone (Asking path pin) (Waiting t) v m listing files x y p q c.choose-choice.ensures.fetches first) c.choose-choice.ensures.listing c.choose-choice.ensures.files (c.arrive.ensures.goes path) in
     record {
       run = whole path pin (after_arrival t reply) reply v u listing files x z p r all (reply_arrived t reply) (resolved path choice c.in-Ok.ticket reply v m u c.in-Ok.ensures.made c.arrive.ensures.held);
       images = images_then (g.K.Desk.kept c.args.desk.now) (g.K.Desk.kept c.ask.new.desk) (g.K.Desk.kept c.arrive.new.desk) c.in-Ok.ensures.images c.arrive.ensures.images;
