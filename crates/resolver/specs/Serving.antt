@@ -170,7 +170,8 @@ reply_at (Opened root dir) = Some (replies.Resolved dir)
 reply_at (Refused reply) = Some reply
 
 -- These events are one run that resolves this package, and its reply.
-pub record Serves (path : NameAndVariant) (pin : Option Root) (run : List Numbered) (reply : ResolveReply) : Type 0 where
+pub record Serves (path : NameAndVariant) (pin : Option Root) (run : List Numbered) (reply : ResolveReply)
+    : Type 0 where
   pub point : Point
   pub leads : Leads (Asking path pin) run point
   pub replied : reply_at point ≡ Some reply
