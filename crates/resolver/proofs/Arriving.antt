@@ -1,7 +1,6 @@
 -- Whole rounds: what is missing is asked for, and fetched.
-use Rattle.std.proofs.Common.{◌≡◌, ℕ, ◌+◌, List, Option, Some, None, refl, sym, ap, subst, ◌∙◌}
+use Rattle.std.proofs.Common.{◌≡◌, ℕ, List, Option, refl, sym, ap, subst, ◌∙◌}
 use Rattle.pkg_names.specs.NameAndVariant.{NameAndVariant}
-use Rattle.pkg_names.specs.declared.root.Root.{Root}
 use Rattle.pkg_names.specs.Streams.{one_more}
 use Rattle.pkg_names.specs.declared.pinned.Pinned.{Pinned}
 use Rattle.repo_source.specs.declared.file.RepoFile.{RepoFile}
@@ -24,7 +23,7 @@ use Rattle.resolver.specs.declared.reply.Stop.TheVariants as stops
 use Rattle.resolver.specs.Serving.{Point, ticket_for, after_want}
 use Rattle.resolver.specs.Serving.Point.{Waiting, Granted, Giving, Refused}
 use Rattle.resolver.specs.Steps.{Goes, Fetches, reply_of, after_arrival, held_after_arrival}
-use Rattle.resolver.proofs.Goes.{goes_then, goes_on, goes_rests, rose_same}
+use Rattle.resolver.proofs.Goes.{goes_then, goes_rests, rose_same}
 use Rattle.resolver.proofs.Desks.{granted_by, want_goes, give_up_goes, cut_goes}
 use Rattle.resolver.proofs.Handles.{claim_back}
 

@@ -1,5 +1,5 @@
 -- What each call of a resolve at its desk comes to, by its reply.
-use Rattle.std.proofs.Common.{inl, inr, ◌≡◌, ℕ, ◌+◌, ◌<◌, ◌≤◌, ◌++◌, ◌⊎◌, true, false, cond, List, [], length, Option, Some, None, IsSomeAnd, refl, sym, ap, subst, ◌∙◌, arith}
+use Rattle.std.proofs.Common.{inl, inr, ◌≡◌, ℕ, ◌+◌, ◌<◌, ◌++◌, cond, List, [], length, Option, Some, None, IsSomeAnd, refl, sym, subst}
 use Rattle.fetch_queue.specs.declared.FetchEnd.{FetchEnd}
 use Rattle.fetch_queue.specs.declared.FetchEnd.TheVariants as ends
 use Rattle.package_indexes.specs.declared.Choice.{Choice}
@@ -33,14 +33,13 @@ use Rattle.store_model.specs.declared.replies.PutReply.TheVariants as put
 use Rattle.store_model.specs.declared.replies.LandReply.{LandReply}
 use Rattle.store_model.specs.declared.replies.LandReply.TheVariants as land
 use Rattle.store_model.specs.Holding.{HeldTicket}
-use Rattle.store_model.specs.Desk.{View, Does, Rests, Kept}
-use Rattle.store_model.specs.Desk.Keeping.{Blob}
+use Rattle.store_model.specs.Desk.{View, Does, Kept}
 use Rattle.store_model.specs.Replies.{Acts, IsBegun, IsWanted, IsRoom, IsPut, IsLanded, IsMissed, IsGivenUp}
 use Rattle.store_model.specs.Calls as desk
 use Rattle.store_model.specs.Calls.{room_by, Carries, IsLandedWith, IsLandingOf, KeepsAtLand}
 use Rattle.resolver.specs.declared.reply.ResolveReply.{ResolveReply}
 use Rattle.resolver.specs.declared.reply.ResolveReply.TheVariants as replies
-use Rattle.resolver.specs.Serving.{Point, IsChoiceFor, ticket_for, after_begin, after_want, after_room, after_put, after_land, after_miss, Begins, Misses, GivesUp, Follows}
+use Rattle.resolver.specs.Serving.{Point, IsChoiceFor, ticket_for, after_begin, after_want, after_room, after_put, after_land, after_miss, Misses, Follows}
 use Rattle.resolver.specs.Serving.Point.{Asking, Waiting, Granted, Roomy, Giving, Refused}
 use Rattle.resolver.specs.Counting.{is_failure}
 use Rattle.resolver.specs.Fetched.{IsListed, HasFile, IsBlob, IsOther, TellsInAct}

@@ -11,7 +11,7 @@ use Rattle.repo_source.proofs.Pieces.{take-piece, take-end}
 use Rattle.store_model.specs.Desk.{Kept, Appends, OfKept}
 use Rattle.store_model.specs.Desk.Keeping.{Blob}
 use Rattle.resolver.specs.Fetched.{HasFile}
-use Rattle.resolver.specs.Steps.{IsFront, Fills, IsFilled}
+use Rattle.resolver.specs.Steps.{Fills, IsFilled}
 
 -- what is so where something is told
 pub if_told : {X : Type 0} (o : Option X) (P : X → Type 0) (all : X) → o ≡ Some all → IfSome o P → P all

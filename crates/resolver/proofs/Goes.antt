@@ -1,5 +1,5 @@
 -- Steps of a resolve: one event, none, and one step after another.
-use Rattle.std.proofs.Common.{◌≡◌, ℕ, zero, suc, add-zero, add-suc, ◌+◌, ◌≤◌, Bool, true, false, cond, List, [], ◌∷◌, ◌++◌, length, All, Option, Some, refl, sym, ap, subst, ◌∙◌, append_assoc, arith}
+use Rattle.std.proofs.Common.{◌≡◌, ℕ, zero, suc, add-zero, add-suc, ◌+◌, ◌≤◌, Bool, cond, List, [], ◌∷◌, ◌++◌, length, Option, Some, refl, sym, ap, subst, ◌∙◌, append_assoc, arith}
 use Rattle.std.proofs.lemmas.List.{append-nil}
 use Rattle.std.proofs.lemmas.List.Elements.{All-nil, All-cons, All-append}
 use Rattle.std.proofs.lemmas.List.Sums.{sum_by-append}
@@ -14,7 +14,6 @@ use Rattle.store_model.specs.Desk.{View, Stays, Does, Rests}
 use Rattle.resolver.specs.Serving.{Point, Follows, Leads}
 use Rattle.resolver.specs.Counting.{is_grant, is_failure, grants, failures, counted}
 use Rattle.resolver.specs.Fetched.{Lists, ListsInAct, Tells, TellsInAct, TellsUnless}
-use Rattle.resolver.specs.Viewing.{Agrees}
 use Rattle.resolver.specs.Steps.{Goes, Fetches}
 
 -- ---- counts that rise

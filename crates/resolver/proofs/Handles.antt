@@ -1,25 +1,22 @@
 -- What a lane holds at its desk while it resolves, and what is kept for it.
-use Rattle.std.proofs.Common.{◌≡◌, ℕ, ◌+◌, ◌<◌, Bool, true, false, cond, not, List, [], ◌∷◌, ◌++◌, length, All, Option, Some, None, IsSomeAnd, refl, sym, ap, subst, ◌∙◌, find, inl, inr, arith}
+use Rattle.std.proofs.Common.{◌≡◌, ℕ, ◌+◌, ◌<◌, false, List, [], ◌∷◌, ◌++◌, length, All, Option, Some, None, IsSomeAnd, refl, sym, ap, subst, ◌∙◌, arith}
 use Rattle.std.specs.Prelude.{◌==◌, ◌↔◌}
 use Rattle.std.specs.Option.{option_map}
-use Rattle.std.proofs.lemmas.Bool.{eq-eqb, ne_eqb, cond-true, cond-false}
-use Rattle.std.proofs.lemmas.List.{append-nil}
+use Rattle.std.proofs.lemmas.Bool.{eq-eqb, ne_eqb}
 use Rattle.std.proofs.lemmas.List.Elements.{All-head, All-tail, All-weaker}
 use Rattle.package_indexes.specs.declared.Choice.{Choice}
 use Rattle.pkg_names.specs.NameAndVariant.{NameAndVariant}
 use Rattle.pkg_names.specs.declared.root.Root.{Root}
-use Rattle.open_tracker.specs.declared.dirs.DirEntry.{DirEntry}
-use Rattle.image_layout.specs.declared.ImageKind.{ImageKind}
 use Rattle.store_model.specs.declared.replies.Claim.{Claim}
 use Rattle.store_model.specs.declared.replies.Ticket.{Ticket}
 use Rattle.store_model.specs.declared.replies.BeginReply.TheVariants as begin
 use Rattle.store_model.specs.declared.replies.RoomReply.TheVariants as room
 use Rattle.store_model.specs.Holding.{HeldTicket, HeldClaim, Held, ticket_with, without_number, dir_of, with_len}
 use Rattle.store_model.specs.HeldAfter.{without_claim}
-use Rattle.store_model.specs.Desk.{View, Keeping, Kept, held_by, Keeps, KeepsImages, Does}
+use Rattle.store_model.specs.Desk.{View, Kept, held_by, Keeps, KeepsImages}
 use Rattle.store_model.specs.Desk.Keeping.{Image}
 use Rattle.store_model.specs.Replies.{IsBegun}
-use Rattle.store_model.specs.Calls.{room_by, HoldsTicket, HoldsClaim, HoldsNoClaim, HoldsRoom, HoldsNewClaim, MakesRoom, Begins}
+use Rattle.store_model.specs.Calls.{room_by, HoldsClaim, HoldsRoom, HoldsNewClaim, MakesRoom, Begins}
 use Rattle.store_model.proofs.Views.{tickets_before-Does}
 use Rattle.store_model.proofs.CallsHeld.{begun, roomed}
 use Rattle.resolver.specs.declared.reply.ResolveReply.{ResolveReply}

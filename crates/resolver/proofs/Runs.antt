@@ -33,7 +33,7 @@ use Rattle.resolver.specs.declared.reply.ResolveReply.TheVariants as replies
 use Rattle.resolver.specs.Serving.{Point, after_begin, after_want, after_room, after_put, after_land, after_miss, Begins, Follows, Leads, reply_at, Serves}
 use Rattle.resolver.specs.Serving.Point.{Asking, Waiting, Granted, Roomy, Giving, Opened, Refused}
 use Rattle.resolver.specs.Counting.{is_begin, is_grant, begins, grants, ends}
-use Rattle.resolver.specs.Laws.{IsBeginOf, IsRefusedBegin, AsksFirst, AsksOnce, is_want, grant_of, IsEndOr, IsEndedIn, AreEnded, Tells, EndsAs}
+use Rattle.resolver.specs.Laws.{IsBeginOf, IsRefusedBegin, AsksOnce, is_want, grant_of, IsEndOr, IsEndedIn, AreEnded, Tells, EndsAs}
 
 -- ---- points
 

@@ -10,7 +10,6 @@ use Rattle.pkg_merkle.specs.Merkle.{merkle_root}
 use Rattle.repo_source.specs.declared.file.RepoFile.{RepoFile}
 use Rattle.repo_source.specs.Repo.{listed_root, file_under}
 use Rattle.store_model.specs.declared.ends.Miss.TheVariants as misses
-use Rattle.store_model.specs.declared.events.Event.{Event}
 use Rattle.store_model.specs.declared.events.Act.{Act}
 use Rattle.store_model.specs.declared.events.Act.TheVariants as acts
 use Rattle.store_model.specs.declared.events.LookedAt.{LookedAt}

@@ -5,7 +5,6 @@ use Rattle.pkg_names.specs.NameAndVariant.{NameAndVariant}
 use Rattle.pkg_names.specs.declared.root.Root.{Root}
 use Rattle.store_model.specs.declared.ends.BeginEnd.{BeginEnd}
 use Rattle.store_model.specs.declared.ends.BeginEnd.TheVariants as begins
-use Rattle.store_model.specs.declared.ends.WantEnd.{WantEnd}
 use Rattle.store_model.specs.declared.ends.WantEnd.TheVariants as wants
 use Rattle.store_model.specs.declared.events.Act.{Act}
 use Rattle.store_model.specs.declared.events.Act.TheVariants as acts

@@ -1,8 +1,7 @@
-use Rattle.std.proofs.Common.{◌≡◌, [], refl, sym, ap, subst, ◌∙◌}
+use Rattle.std.proofs.Common.{[], sym, ap, subst, ◌∙◌}
 use Rattle.store_model.specs.declared.ends.Miss.TheVariants as misses
 use Rattle.store_model.specs.declared.replies.Claim.{Claim}
 use Rattle.store_model.specs.declared.replies.RoomReply.TheVariants as room
-use Rattle.store_model.specs.Holding.{Held, HeldTicket}
 use Rattle.store_model.specs.HeldAfter.{without_claim}
 use Rattle.store_model.specs.Desk.{Does, Kept}
 use Rattle.store_model.specs.Desk.Keeping.{Blob}

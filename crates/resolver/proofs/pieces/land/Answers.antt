@@ -1,4 +1,4 @@
-use Rattle.std.proofs.Common.{◌≡◌, ap, subst, ◌∙◌}
+use Rattle.std.proofs.Common.{ap, subst, ◌∙◌}
 use Rattle.store_model.specs.declared.ends.Miss.TheVariants as misses
 use Rattle.store_model.specs.declared.replies.Claim.{Claim}
 use Rattle.store_model.specs.declared.replies.LandReply.TheVariants as land
@@ -11,7 +11,7 @@ use Rattle.resolver.specs.declared.reply.ResolveReply.TheVariants as replies
 use Rattle.resolver.specs.Serving.Point.{Roomy, Giving}
 use Rattle.resolver.proofs.Goes.{goes_then, rose_same}
 use Rattle.resolver.proofs.Desks.{land_goes, roomy_misses}
-use Rattle.resolver.proofs.Handles.{claim_stays, room_held, images_then, keeps_images}
+use Rattle.resolver.proofs.Handles.{claim_stays, room_held}
 use Rattle.resolver.proofs.pieces.land.Goals as goal
 
 pub returns-in-Landed-clause-goes : goal.returns-in-Landed-clause-goes

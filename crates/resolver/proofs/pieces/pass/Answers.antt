@@ -1,12 +1,10 @@
-use Rattle.std.proofs.Common.{◌≡◌, ◌+◌, ◌-◌, ◌<◌, ◌≤◌, ℕ, List, length, take, length-take, min, refl, sym, ap, subst, ◌∙◌, arith}
-use Rattle.fetch_queue.specs.declared.FetchEnd.{FetchEnd}
+use Rattle.std.proofs.Common.{◌≡◌, ◌+◌, ◌-◌, ◌<◌, ◌≤◌, ℕ, List, length, take, length-take, min, refl, ap, subst, arith}
 use Rattle.store_model.specs.declared.ends.Miss.TheVariants as misses
 use Rattle.store_model.specs.declared.ends.TheConstants.{PIECE_LIMIT}
 use Rattle.store_model.specs.declared.replies.Claim.{Claim}
 use Rattle.store_model.specs.declared.replies.PutReply.TheVariants as put
 use Rattle.store_model.specs.Desk.{Kept, OfKept}
 use Rattle.store_model.specs.Desk.Keeping.{Blob}
-use Rattle.store_model.specs.Calls.{room_by}
 use Rattle.store_model.proofs.CallsHeld.{piece_put, missed}
 use Rattle.resolver.specs.Serving.Point.{Roomy}
 use Rattle.resolver.specs.Steps.{Goes, after_fetch}

@@ -1,4 +1,4 @@
-use Rattle.std.proofs.Common.{◌≡◌, List, Option, refl, sym, ap, subst, ◌∙◌, arith}
+use Rattle.std.proofs.Common.{List, Option, refl, sym, ap, subst, ◌∙◌, arith}
 use Rattle.pkg_names.specs.declared.root.Root.{Root}
 use Rattle.repo_source.specs.declared.file.RepoFile.{RepoFile}
 use Rattle.store_model.specs.Holding.{Held}

@@ -1,5 +1,4 @@
-use Rattle.std.proofs.Common.{◌≡◌, List, Option, Some, refl, sym, ap, subst, ◌∙◌}
-use Rattle.pkg_names.specs.declared.pinned.Pinned.{Pinned}
+use Rattle.std.proofs.Common.{ap, ◌∙◌}
 use Rattle.store_model.specs.Holding.{Held}
 use Rattle.store_model.specs.declared.replies.BeginReply.TheVariants as begin
 use Rattle.store_model.proofs.CallsHeld.{begun}
@@ -7,7 +6,7 @@ use Rattle.store_model.proofs.CallsHandles.{ticket_made}
 use Rattle.resolver.specs.Fetched.{IsListed}
 use Rattle.resolver.specs.Serving.{ticket_for}
 use Rattle.resolver.specs.Serving.Point.{Asking, Waiting}
-use Rattle.resolver.specs.Steps.{Goes, after_refusal, after_arrival}
+use Rattle.resolver.specs.Steps.{after_refusal, after_arrival}
 use Rattle.resolver.proofs.Goes.{fetches_on}
 use Rattle.resolver.proofs.Filling.{if_told}
 use Rattle.resolver.proofs.Whole.{whole, alone, reply_refused, reply_arrived}

@@ -1,11 +1,10 @@
-use Rattle.std.proofs.Common.{◌≡◌, ℕ, refl, sym, ap, subst, ◌∙◌}
+use Rattle.std.proofs.Common.{refl}
 use Rattle.store_model.specs.declared.replies.WantReply.TheVariants as want
 use Rattle.store_model.proofs.CallsHeld.{wanted}
 use Rattle.resolver.specs.Serving.{ticket_for}
 use Rattle.resolver.specs.Serving.Point.{Refused, Opened}
 use Rattle.resolver.specs.declared.reply.ResolveReply.TheVariants as replies
 use Rattle.resolver.proofs.Arriving.{holds_no_memory, claim_granted, holds_fetched, held_fetched, held_waited, held_cut, held_stopped, round_over, round_waited, round_cut, round_fetched, round_stopped}
-use Rattle.resolver.proofs.Handles.{images_then, keeps_images}
 use Rattle.resolver.proofs.rounds.go_round.Goals as goal
 
 pub returns-in-Opened-clause-goes : goal.returns-in-Opened-clause-goes
