@@ -1,0 +1,15 @@
+//! Resolving a package at a store: it is asked for, what is missing of it is fetched, and it is opened.
+//!
+//! `docs/resolving.md` of the repository tells the steps, and what each refusal leaves.
+#![tactic(auto)]
+
+mod fetching;
+mod laws;
+mod pieces;
+mod reply;
+mod resolving;
+mod rounds;
+
+pub use laws::runs_resolve_one_package;
+pub use reply::ResolveReply;
+pub use resolving::resolve;
