@@ -16,7 +16,7 @@ use Rattle.store_model.specs.State.{State, Stored, stored_len, has_root, protect
 use Rattle.store_model.specs.Systems.{seen_bytes}
 use Rattle.store_model.specs.Settling.{IsSeen}
 use Rattle.store_model.proofs.SameBooks.{with_books}
-use Rattle.plain_state.specs.Contents.{AreBytesOf}
+use Rattle.plain_stock.specs.Contents.{AreBytesOf}
 use Rattle.plain_state.specs.Learning.{first_known, looked_at, at_root, Learns, Forgets}
 use Rattle.plain_state.specs.Looking.{LearnsAll, AreFrom, roots_seen}
 
