@@ -20,8 +20,14 @@ fn two_lanes_with_one_claim_each(rt: HostRuntime) -> Result<(), Fail> {
     queue.set_room(&B, 4097);
     let claims = queue.claims();
     assert_eq!(rt; claims.len(), 2);
-    assert_eq!(rt; (claims[0].root, claims[0].lane, claims[0].len), (A, 1, None));
-    assert_eq!(rt; (claims[1].root, claims[1].lane, claims[1].len), (B, 2, Some(4097)));
+    assert_eq!(rt;
+        (claims[0].root, claims[0].lane, claims[0].len),
+        (A, 1, None)
+    );
+    assert_eq!(rt;
+        (claims[1].root, claims[1].lane, claims[1].len),
+        (B, 2, Some(4097))
+    );
     let looks = [
         ([A, B, C], Some(C)),
         ([C, B, A], Some(C)),

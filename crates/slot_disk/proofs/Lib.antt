@@ -1,0 +1,11 @@
+pub mod ZeroPages
+pub mod HeaderLemmas
+pub mod PageLemmas
+pub mod PageBytes
+pub mod Joined
+pub mod SystemLemmas
+pub mod WriteSteps
+pub mod ReadSteps
+pub mod Standing
+pub mod LoadSteps
+pub mod SlotSteps
