@@ -1,5 +1,5 @@
 use Rattle.std.proofs.Common.{sym, ap, ◌∙◌}
-use Rattle.std.specs.Prelude.{not, ◌||◌, find}
+use Rattle.std.specs.Prelude.{not, find}
 use Rattle.store_model.specs.State.{is_stored}
 use Rattle.plain_stock.proofs.Named.{named_here, named_later}
 use Rattle.plain_stock.proofs.packages.first_missing.Goals as goal
