@@ -1,5 +1,5 @@
 -- The activation of a sealed system leaves the books settled, once they have forgotten what was looked at.
-use Rattle.std.proofs.Common.{◌≡◌, ℕ, Bool, true, false, cond, not, ◌&&◌, List, [], ◌∷◌, Option, Some, None, is_some, inl, inr, refl, sym, ap, subst, ◌∙◌, length}
+use Rattle.std.proofs.Common.{◌≡◌, ℕ, Bool, true, false, cond, not, ◌&&◌, List, [], ◌∷◌, Option, Some, None, is_some, inl, inr, refl, sym, ap, subst, ◌∙◌}
 use Rattle.std.specs.Option.{option_map}
 use Rattle.std.proofs.lemmas.Bool.{cases_Bool, true≢false, or_left, or_right, and_from, and_right, not_from_true, not_from_false}
 use Rattle.pkg_names.specs.declared.root.Root.{Root}
@@ -11,13 +11,13 @@ use Rattle.abr_record.specs.declared.Slot.TheVariants.{A, B, R}
 use Rattle.abr_record.specs.Marks.{active_record}
 use Rattle.image_layout.specs.declared.Sys.{Sys}
 use Rattle.package_book.specs.Books.{Meta, Books, book_at}
-use Rattle.package_book.specs.Books.Meta.{Read, Long}
+use Rattle.package_book.specs.Books.Meta.{Read}
 use Rattle.system_lists.specs.Judging.{Verdict}
 use Rattle.system_lists.specs.Judging.Verdict.{Missing, Faulty, Unread, Whole}
 use Rattle.store_model.specs.declared.events.LookedAt.{LookedAt}
 use Rattle.store_model.specs.declared.ends.ActivateEnd.{ActivateEnd}
 use Rattle.store_model.specs.declared.ends.ActivateEnd.TheVariants.{Active, BaseMissing, NotASystem, DiskRead, Rotten}
-use Rattle.store_model.specs.State.{State, Stored, Phase, Stage, IsStageOf, stored_len, is_stored, has_root, protected_in, other_slot, with_sys}
+use Rattle.store_model.specs.State.{State, Stored, IsStageOf, is_stored, has_root, protected_in, other_slot, with_sys}
 use Rattle.store_model.specs.State.Phase.{Sealed, Done}
 use Rattle.store_model.specs.Mirrors.{Mirrors}
 use Rattle.store_model.specs.Settling.{IsSeen}
@@ -27,7 +27,7 @@ use Rattle.store_model.proofs.SameBooks.{with_books}
 use Rattle.plain_state.specs.Learning.{first_known, looked_at, Forgets, IsReady, IsSettled}
 use Rattle.plain_state.specs.Looking.{LearnsAll, roots_seen}
 use Rattle.plain_state.specs.Judged.{after_verdict}
-use Rattle.plain_state.proofs.Settled.{IsThere, Turns, settles}
+use Rattle.plain_state.proofs.Settled.{settles}
 
 never : {P : Type 0} {b : Bool} → b ≡ true → b ≡ false → P
 never holds lacks = absurd (true≢false (sym holds ∙ lacks))

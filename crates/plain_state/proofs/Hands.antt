@@ -6,10 +6,9 @@ use Rattle.pkg_names.specs.declared.root.Root.{Root}
 use Rattle.pkg_names.specs.Root.{root_eq}
 use Rattle.package_book.specs.declared.book.TheConstants.{META_LIMIT}
 use Rattle.package_book.specs.Books.{Meta, Books, book_at}
-use Rattle.package_book.specs.Books.Meta.{Read, Long}
+use Rattle.package_book.specs.Books.Meta.{Long}
 use Rattle.package_book.specs.Book.{MetaAndFiles, each_once}
 use Rattle.package_book.specs.Names.{names, listed_roots, roots_known}
-use Rattle.system_lists.specs.Judging.{AtHand}
 use Rattle.store_model.specs.declared.events.LookedAt.{LookedAt}
 use Rattle.store_model.specs.State.{State, Stored, stored_len, has_root}
 use Rattle.store_model.specs.Packages.{book_of, the_book, known_book}
@@ -19,7 +18,7 @@ use Rattle.store_model.proofs.SameBooks.{with_books}
 use Rattle.plain_state.specs.Learning.{first_known, looked_at}
 use Rattle.plain_state.specs.Looking.{LearnsAll}
 use Rattle.plain_state.specs.Judged.{hand_of, outer_in}
-use Rattle.plain_state.proofs.Settled.{long_at, learnt_at, looked_books_at}
+use Rattle.plain_state.proofs.Settled.{long_at, looked_books_at}
 
 -- a length is no book, and names nothing
 long_is_none : (stock : List Stored) (root : Root) → option_and_then (λ meta. the_book (book_of meta)) (long_at stock root) ≡ None

@@ -1,5 +1,3 @@
-pub mod Stocks
-pub mod Named
 pub mod Joined
 pub mod EachMarked
 pub mod Protected
@@ -8,7 +6,6 @@ pub mod SettledActs
 pub mod SettledStill
 pub mod SettledLooks
 pub mod Ready
-pub mod ContentsMap
 pub mod Looking
 pub mod Hands
 pub mod Activating

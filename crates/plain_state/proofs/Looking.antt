@@ -1,22 +1,20 @@
 -- One look after another.
-use Rattle.std.proofs.Common.{◌≡◌, ◌≤◌, ◌<◌, ◌+◌, ℕ, Bool, true, false, cond, ◌&&◌, ◌||◌, not, List, [], ◌∷◌, ◌++◌, length, get_or, take, Option, Some, None, is_some, refl, sym, ap, subst, ◌∙◌}
+use Rattle.std.proofs.Common.{◌≡◌, ◌≤◌, ◌<◌, ◌+◌, ℕ, Bool, true, false, cond, ◌&&◌, ◌||◌, not, List, [], ◌∷◌, ◌++◌, length, get_or, take, Option, Some, None, refl, sym, ap, subst, ◌∙◌}
 use Rattle.std.specs.Prelude.{Result, Ok, Err, OnOk, OnErr}
 use Rattle.std.specs.Option.{option_map}
 use Rattle.std.proofs.lemmas.List.{take_more, map-append}
 use Rattle.std.proofs.lemmas.List.Folds.{list_any-append}
 use Rattle.pkg_names.specs.declared.root.Root.{Root}
 use Rattle.pkg_names.specs.Root.{root_eq}
-use Rattle.pkg_names.proofs.Roots.{root_eq-refl}
-use Rattle.pkg_merkle.specs.Merkle.{merkle_root}
 use Rattle.package_book.specs.declared.book.TheConstants.{META_LIMIT}
 use Rattle.package_book.specs.Books.{Meta, book_at}
-use Rattle.package_book.specs.Books.Meta.{Read, Long}
+use Rattle.package_book.specs.Books.Meta.{Read}
 use Rattle.store_model.specs.declared.events.LookedAt.{LookedAt}
-use Rattle.store_model.specs.State.{State, Stored, stored_len, has_root, protected_in}
+use Rattle.store_model.specs.State.{State, Stored, has_root, protected_in}
 use Rattle.store_model.specs.Systems.{seen_bytes}
 use Rattle.store_model.specs.Settling.{IsSeen}
 use Rattle.store_model.proofs.SameBooks.{with_books}
-use Rattle.plain_state.specs.Contents.{AreBytesOf}
+use Rattle.plain_stock.specs.Contents.{AreBytesOf}
 use Rattle.plain_state.specs.Learning.{first_known, looked_at, at_root, Learns, Forgets}
 use Rattle.plain_state.specs.Looking.{LearnsAll, AreFrom, roots_seen}
 

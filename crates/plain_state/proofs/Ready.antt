@@ -1,12 +1,10 @@
 -- What a store that mirrors the model's state can rest its calls on.
-use Rattle.std.proofs.Common.{◌≡◌, List, Option, is_some, sym, ap, subst, ◌∙◌}
-use Rattle.pkg_names.specs.declared.root.Root.{Root}
-use Rattle.package_book.specs.Books.{Meta, book_at}
+use Rattle.std.proofs.Common.{List, Option, is_some, sym, ap, subst, ◌∙◌}
+use Rattle.package_book.specs.Books.{Meta}
 use Rattle.store_model.specs.declared.events.Event.{Event}
 use Rattle.store_model.specs.Mirrors.{Mirrors}
 use Rattle.store_model.specs.State.{State}
 use Rattle.store_model.specs.History.{Origin, IsLegal, after}
-use Rattle.store_model.proofs.SameBooks.{with_books}
 use Rattle.store_model.proofs.Sound.{books_after}
 use Rattle.store_model.proofs.LanesOnce.{stand_once}
 use Rattle.plain_state.specs.Learning.{IsReady}

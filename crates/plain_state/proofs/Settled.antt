@@ -1,5 +1,5 @@
 -- How an event leaves the books, where the store keeps them by what it learns and forgets.
-use Rattle.std.proofs.Common.{◌≡◌, ℕ, Bool, true, false, cond, ◌&&◌, not, inl, inr, List, [], ◌∷◌, ◌++◌, Option, Some, None, is_some, refl, sym, ap, ap₂, subst, ◌∙◌}
+use Rattle.std.proofs.Common.{◌≡◌, ℕ, Bool, true, false, cond, ◌&&◌, not, inl, inr, List, [], ◌∷◌, ◌++◌, Option, Some, None, is_some, refl, sym, ap, ap₂, ◌∙◌}
 use Rattle.std.specs.Prelude.{nat_lt}
 use Rattle.std.specs.Option.{option_map}
 use Rattle.std.proofs.lemmas.Bool.{cases_Bool, true≢false, and_parts, and_from, and_right, not_from_true, not_from_false}
@@ -12,7 +12,7 @@ use Rattle.package_book.specs.Books.Meta.{Read, Long}
 use Rattle.store_model.specs.declared.events.LookedAt.{LookedAt}
 use Rattle.store_model.specs.State.{State, Stored, stored_len, is_stored, has_root, protected_in}
 use Rattle.store_model.specs.Systems.{seen_bytes}
-use Rattle.store_model.specs.Settling.{with_looked, with_long, looked_books, settle, KnowsAll}
+use Rattle.store_model.specs.Settling.{with_looked, with_long, looked_books}
 use Rattle.store_model.specs.Sound.{KnowsExactly}
 use Rattle.store_model.proofs.SameBooks.{kept_at, with_books}
 use Rattle.plain_state.specs.Learning.{first_known, looked_at, long_of, told_at, IsSettled}

@@ -1,42 +1,23 @@
 -- Each act that looks at nothing leaves the books settled, once they have forgotten what it names.
-use Rattle.std.proofs.Common.{◌≡◌, ◌⊎◌, inl, inr, ℕ, Bool, true, false, cond, not, ◌&&◌, List, [], ◌∷◌, ◌++◌, map, Option, Some, None, is_some, refl, sym, ap, subst, ◌∙◌}
-use Rattle.std.specs.Prelude.{find, filter, ◌==◌}
+use Rattle.std.proofs.Common.{◌≡◌, ◌⊎◌, inl, inr, ℕ, Bool, true, false, cond, not, List, [], ◌∷◌, map, Option, Some, None, is_some, refl, sym, ap, subst, ◌∙◌}
+use Rattle.std.specs.Prelude.{filter, ◌==◌}
 use Rattle.std.specs.Option.{option_map}
-use Rattle.std.proofs.lemmas.Bool.{cases_Bool, true≢false, or_cases, or_left, or_right, and_parts, eqb-true}
+use Rattle.std.proofs.lemmas.Bool.{true≢false, or_cases, or_left, or_right, and_parts, eqb-true}
 use Rattle.pkg_names.specs.declared.root.Root.{Root}
 use Rattle.pkg_names.specs.declared.pinned.Pinned.{Pinned}
-use Rattle.pkg_names.specs.NameAndVariant.{NameAndVariant}
 use Rattle.pkg_names.specs.Root.{root_eq}
-use Rattle.pkg_names.proofs.Roots.{root_eq-true, root_eq-refl}
-use Rattle.abr_record.specs.declared.Slot.{Slot}
-use Rattle.abr_record.specs.declared.Slot.TheVariants.{A, B, R}
-use Rattle.fetch_queue.specs.declared.FetchEnd.{FetchEnd}
 use Rattle.open_tracker.specs.declared.dirs.DirEntry.{DirEntry}
-use Rattle.open_tracker.specs.Directories.{is_of, root_of, without}
-use Rattle.package_book.specs.Books.{Books, book_at}
-use Rattle.package_book.specs.Names.{names}
-use Rattle.package_book.specs.Unprotected.{has_root as is_among, is_named, unprotected}
-use Rattle.package_book.proofs.NameLaws.{has_itself}
-use Rattle.package_indexes.specs.Indexes.{root_at, with_root, roots_of, protected}
+use Rattle.open_tracker.specs.Directories.{is_of, root_of}
+use Rattle.package_indexes.specs.Indexes.{root_at, with_root, roots_of}
 use Rattle.store_model.specs.declared.ends.WantEnd.TheVariants as wants
 use Rattle.store_model.specs.declared.ends.Cause.{Cause}
-use Rattle.store_model.specs.State.{State, Stored, Arrival, stored_len, is_stored, has_root, stock_roots, without_blobs, arrival_of, protected_in}
-use Rattle.store_model.specs.Sound.{KnowsExactly}
-use Rattle.store_model.specs.Packages.{rest as unnamed}
+use Rattle.store_model.specs.State.{State, Arrival, has_root, arrival_of, protected_in}
 use Rattle.store_model.specs.Acts.Want.{with_directory, with_active, next_want}
 use Rattle.store_model.specs.Acts.GaveUp.{next_gave_up}
-use Rattle.store_model.specs.Acts.Marking.{marked, marked_arrivals, ended, unclaimed}
-use Rattle.store_model.specs.Acts.Room.{next_room}
 use Rattle.store_model.specs.Acts.Close.{next_close}
-use Rattle.store_model.specs.Acts.Collect.{next_collect}
-use Rattle.store_model.specs.Acts.Stage.{staging, next_stage}
-use Rattle.store_model.specs.Acts.Seal.{next_seal}
-use Rattle.store_model.specs.Acts.LeftStage.{next_left_stage}
-use Rattle.store_model.specs.Acts.Commit.{next_commit}
-use Rattle.store_model.proofs.LanesLasting.{left_len}
 use Rattle.plain_state.specs.Learning.{IsReady, IsSettled, Forgets, listed, replaced_by}
-use Rattle.plain_state.proofs.Protected.{by_part, IsInNone, in_none, from_base, from_cached, from_active, from_retained, from_arriving, from_dirs, arriving_roots, last_has, more_has, own_has, kept_has, lost_is_found, replaced_is_found, with_root_has}
-use Rattle.plain_state.proofs.Settled.{IsThere, IsQuiet, settles_quietly, settles_still}
+use Rattle.plain_state.proofs.Protected.{by_part, in_none, from_base, from_cached, from_active, from_retained, from_arriving, from_dirs, arriving_roots, last_has, more_has, own_has, kept_has, lost_is_found, replaced_is_found, with_root_has}
+use Rattle.plain_state.proofs.Settled.{IsQuiet, settles_quietly}
 
 never : {P : Type 0} {b : Bool} → b ≡ true → b ≡ false → P
 never holds lacks = absurd (true≢false (sym holds ∙ lacks))

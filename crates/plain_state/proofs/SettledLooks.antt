@@ -1,14 +1,14 @@
 -- Acts that may have to look at blobs leave the books settled, once they have learned what is told of them.
-use Rattle.std.proofs.Common.{◌≡◌, ◌⊎◌, inl, inr, ℕ, Bool, true, false, cond, not, ◌&&◌, ◌||◌, List, [], ◌∷◌, ◌++◌, map, Option, Some, None, is_some, refl, sym, ap, subst, ◌∙◌, arith}
-use Rattle.std.specs.Prelude.{filter, nat_lt, nat_le}
+use Rattle.std.proofs.Common.{◌≡◌, inl, inr, ℕ, Bool, true, false, cond, not, ◌&&◌, ◌||◌, List, [], ◌∷◌, ◌++◌, Option, Some, None, is_some, refl, sym, ap, ◌∙◌}
+use Rattle.std.specs.Prelude.{filter, nat_le}
 use Rattle.std.specs.Option.{option_map}
-use Rattle.std.proofs.lemmas.Bool.{cases_Bool, true≢false, or_cases, or_left, or_right, and_parts, and_from, and_cases, leb-false, lt-ltb}
+use Rattle.std.proofs.lemmas.Bool.{cases_Bool, true≢false, and_cases, leb-false, lt-ltb}
 use Rattle.pkg_names.specs.declared.root.Root.{Root}
 use Rattle.pkg_names.specs.NameAndVariant.{NameAndVariant}
 use Rattle.pkg_names.specs.Root.{root_eq}
 use Rattle.pkg_names.proofs.Roots.{root_eq-true, root_eq-refl}
 use Rattle.package_book.specs.declared.book.TheConstants.{META_LIMIT}
-use Rattle.package_book.specs.Books.{Meta, Books, Sets, book_at}
+use Rattle.package_book.specs.Books.{Meta, Books, book_at}
 use Rattle.package_book.specs.Books.Meta.{Read, Long}
 use Rattle.package_indexes.specs.Sets.{each_once}
 use Rattle.store_model.specs.declared.events.LookedAt.{LookedAt}
@@ -22,8 +22,8 @@ use Rattle.store_model.specs.Acts.Land.{next_land}
 use Rattle.store_model.specs.Acts.Retain.{next_retain}
 use Rattle.store_model.proofs.SameBooks.{with_books}
 use Rattle.plain_state.specs.Learning.{first_known, looked_at, long_of, told_at, told_of, at_root, seen_of, Learns, Unlearns, IsReady, IsSettled}
-use Rattle.plain_state.proofs.Protected.{by_part, in_none, from_base, from_cached, from_active, from_retained, from_arriving, from_dirs, arriving_roots, last_has, more_has, own_has}
-use Rattle.plain_state.proofs.Settled.{IsThere, Turns, settles}
+use Rattle.plain_state.proofs.Protected.{by_part, in_none, from_base, from_cached, from_active, from_retained, from_arriving, from_dirs, last_has, more_has, own_has}
+use Rattle.plain_state.proofs.Settled.{IsThere, settles}
 
 never : {P : Type 0} {b : Bool} → b ≡ true → b ≡ false → P
 never holds lacks = absurd (true≢false (sym holds ∙ lacks))

@@ -1,5 +1,5 @@
 -- Acts that leave the stock and the protected packages, or the stock alone, leave the books settled at once.
-use Rattle.std.proofs.Common.{◌≡◌, ◌⊎◌, inl, inr, ℕ, Bool, true, false, cond, not, ◌&&◌, List, [], ◌∷◌, ◌++◌, map, Option, Some, None, is_some, refl, sym, ap, ◌∙◌}
+use Rattle.std.proofs.Common.{◌≡◌, ◌⊎◌, inl, inr, ℕ, Bool, true, false, cond, not, List, [], ◌∷◌, map, Option, Some, None, is_some, refl, sym, ap, ◌∙◌}
 use Rattle.std.specs.Prelude.{filter}
 use Rattle.std.proofs.lemmas.Bool.{cases_Bool, true≢false, or_cases, or_left, or_right}
 use Rattle.std.proofs.lemmas.List.Folds.{list_any_at}
@@ -7,27 +7,22 @@ use Rattle.pkg_names.specs.declared.root.Root.{Root}
 use Rattle.pkg_names.specs.declared.pinned.Pinned.{Pinned}
 use Rattle.pkg_names.specs.NameAndVariant.{NameAndVariant, path_eq}
 use Rattle.pkg_names.specs.Root.{root_eq}
-use Rattle.pkg_names.proofs.Roots.{root_eq-true, root_eq-refl, root_eq-same}
+use Rattle.pkg_names.proofs.Roots.{root_eq-true, root_eq-same}
 use Rattle.abr_record.specs.declared.Slot.{Slot}
 use Rattle.abr_record.specs.declared.Slot.TheVariants.{A, B, R}
 use Rattle.fetch_queue.specs.declared.FetchEnd.{FetchEnd}
 use Rattle.image_layout.specs.declared.Sys.{Sys}
 use Rattle.open_tracker.specs.declared.dirs.DirEntry.{DirEntry}
-use Rattle.package_book.specs.Books.{Books, book_at}
+use Rattle.package_book.specs.Books.{Books}
 use Rattle.package_book.specs.Names.{names}
 use Rattle.package_book.specs.Unprotected.{has_root as is_among, is_named, unprotected}
-use Rattle.package_book.proofs.NameLaws.{has_itself, is_named-names}
+use Rattle.package_book.proofs.NameLaws.{has_itself}
 use Rattle.package_indexes.specs.Indexes.{root_at, roots_of, protected, or_else}
 use Rattle.store_model.specs.declared.ends.WantEnd.TheVariants as wants
-use Rattle.store_model.specs.declared.ends.ActivateEnd.TheVariants as activations
-use Rattle.store_model.specs.declared.events.LookedAt.{LookedAt}
-use Rattle.store_model.specs.State.{State, Stored, Arrival, Phase, Stage, stored_len, is_stored, has_root, stock_roots, without_blobs, protected_in}
-use Rattle.store_model.specs.State.Phase.{Filling, Sealed, Done}
-use Rattle.store_model.specs.Sound.{KnowsExactly}
+use Rattle.store_model.specs.State.{State, Arrival, stored_len, is_stored, has_root, stock_roots, without_blobs, protected_in}
 use Rattle.store_model.specs.Packages.{rest as unnamed, is_complete}
-use Rattle.store_model.specs.Settling.{IsSeen}
 use Rattle.store_model.specs.Acts.Want.{next_want}
-use Rattle.store_model.specs.Acts.Marking.{marked, marked_arrivals, ended, unclaimed}
+use Rattle.store_model.specs.Acts.Marking.{marked, ended, unclaimed}
 use Rattle.store_model.specs.Acts.Room.{next_room}
 use Rattle.store_model.specs.Acts.OpenPath.{if_complete, root_to_open, next_open_path}
 use Rattle.store_model.specs.Acts.Collect.{next_collect}
@@ -38,7 +33,7 @@ use Rattle.store_model.specs.Acts.Commit.{next_commit}
 use Rattle.store_model.proofs.LanesLasting.{left_len}
 use Rattle.plain_state.specs.Learning.{IsReady, IsSettled}
 use Rattle.plain_state.proofs.Protected.{by_part, from_base, from_cached, from_active, from_retained, from_arriving, from_dirs, last_has, more_has}
-use Rattle.plain_state.proofs.Settled.{IsThere, IsQuiet, settles_quietly, settles_still}
+use Rattle.plain_state.proofs.Settled.{settles_quietly, settles_still}
 
 -- ---- nothing that counts changes
 

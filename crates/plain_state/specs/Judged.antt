@@ -1,5 +1,5 @@
 -- What a state has of a system, and what a verdict on a sealed one leaves.
-use Rattle.std.specs.Prelude.{◌≡◌, ◌||◌, not, ℕ, Bool, List, Option, Some, None, is_some}
+use Rattle.std.specs.Prelude.{◌||◌, not, ℕ, Bool, List, Option, Some, None, is_some}
 use Rattle.pkg_names.specs.declared.root.Root.{Root}
 use Rattle.abr_record.specs.Marks.{active_record}
 use Rattle.image_layout.specs.declared.Sys.{Sys}

@@ -1,9 +1,7 @@
 pub mod Views
 pub mod Marks
-pub mod Stocks
 pub mod Opening
 pub mod FileViews
-pub mod Contents
 pub mod Learning
 pub mod Looking
 pub mod Judged

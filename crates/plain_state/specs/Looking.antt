@@ -1,5 +1,5 @@
 -- What looks at blobs leave of the books, and of what the event tells.
-use Rattle.std.specs.Prelude.{◌≡◌, ◌≤◌, ℕ, List, [], ◌∷◌, map, length, Some}
+use Rattle.std.specs.Prelude.{◌≡◌, ◌≤◌, List, [], ◌∷◌, map, length, Some}
 use Rattle.pkg_names.specs.declared.root.Root.{Root}
 use Rattle.package_book.specs.declared.book.TheConstants.{META_LIMIT}
 use Rattle.package_book.specs.Books.{book_at}

@@ -11,12 +11,12 @@ ghost use Rattle.package_indexes.specs.declared.Arriving.{Arriving as ArrivingOf
 ghost use Rattle.store_model.specs.State.{has_root, protected_in};
 ghost use Rattle.plain_state.specs.Learning.{Learns, Unlearns, Forgets};
 
-use crate::packages::is_known;
 use crate::state::State;
 use open_tracker::DirEntry;
 use package_book::META_LIMIT;
 use package_indexes::{Arriving, PathSet};
 use pkg_names::{Pinned, Root};
+use plain_stock::is_known;
 use std::alloc::AllocError;
 
 impl State {

@@ -1,25 +1,20 @@
 //! The state of a store in memory: each answer and each next state of the model.
 #![tactic(auto)]
 
-mod blobs;
 mod books;
 mod changes;
-mod contents;
 mod files;
 mod holdings;
 mod judging;
 mod laws;
 mod looks;
 mod marking;
-mod packages;
 mod rest;
 mod room;
 mod settling;
 mod state;
 mod turns;
 
-pub use blobs::{Blob, Stock};
-pub use contents::Contents;
 pub use files::FileAt;
 pub use judging::Activation;
 pub use laws::{

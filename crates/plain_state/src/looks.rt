@@ -6,10 +6,10 @@ ghost use Rattle.store_model.specs.State.{State as StateOf};
 ghost use Rattle.plain_state.specs.Learning.{Learns};
 ghost use Rattle.plain_state.specs.Looking.{LearnsAll, AreFrom};
 
-use crate::contents::Contents;
 use crate::state::State;
 use package_book::META_LIMIT;
 use pkg_names::{Bytes, Root};
+use plain_stock::Contents;
 use std::alloc::AllocError;
 use store_model::LookedAt;
 

@@ -5,12 +5,12 @@ ghost use Rattle.package_indexes.specs.Sets.{AreDistinct};
 ghost use Rattle.store_model.specs.Acts.Marking.{ended};
 ghost use Rattle.plain_state.specs.Marks.{marks_with, marks_after};
 
-use crate::packages::is_naming;
 use crate::state::State;
 use fetch_queue::{FetchEnd, Queue};
 use package_book::Shelf;
 use package_indexes::Arriving;
 use pkg_names::Root;
+use plain_stock::is_naming;
 
 // The package that arrives is marked, if it names the blob.
 fn mark_one(queue: &mut Queue, books: &Shelf, arrival: &Arriving, root: &Root, end: FetchEnd)

@@ -6,11 +6,11 @@ ghost use Rattle.store_model.specs.State.{claim_of};
 ghost use Rattle.store_model.specs.Packages.{room_pages, claim_pages, free_pages, nodes};
 ghost use Rattle.store_model.specs.Acts.Room.{room_end};
 
-use crate::blobs::pages_of;
 use crate::state::State;
 use fetch_queue::{ClaimEntry, FetchEnd};
 use pkg_merkle::BYTES_LIMIT;
 use pkg_names::Root;
+use plain_stock::pages_of;
 
 impl State {
     /// The claim of a root.

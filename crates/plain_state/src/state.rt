@@ -15,8 +15,6 @@ ghost use Rattle.store_model.specs.Acts.OpenPath.{root_to_open};
 ghost use Rattle.store_model.specs.Acts.Stage.{stage_answer};
 ghost use Rattle.plain_state.specs.Opening.{replaced};
 
-use crate::blobs::Stock;
-use crate::packages::{fault_of, first_free, first_missing, is_book, is_known};
 use crate::turns::Turn;
 use abr_record::{Record, Slot, bootable};
 use fetch_queue::{FetchEnd, Queue};
@@ -25,6 +23,7 @@ use open_tracker::Dirs;
 use package_book::{META_LIMIT, PackageFault, Shelf};
 use package_indexes::{Arriving, Choice, Chosen, Indexes, PathSet};
 use pkg_names::{Items, PackagePath, Pinned, Root};
+use plain_stock::{Stock, fault_of, first_free, first_missing, is_book, is_known};
 use std::alloc::Global;
 use std::marker::Model;
 use store_model::{BeginEnd, Cause, StageEnd, WantEnd};

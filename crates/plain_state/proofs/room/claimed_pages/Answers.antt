@@ -1,7 +1,7 @@
 use Rattle.std.proofs.Common.{◌≡◌, [], None, get_or, arith}
 use Rattle.fetch_queue.specs.declared.queue.ClaimEntry.{ClaimEntry}
 use Rattle.store_model.specs.Packages.{room_pages}
-use Rattle.plain_state.proofs.Stocks.{claim_pages_more}
+use Rattle.plain_stock.proofs.Stocks.{claim_pages_more}
 use Rattle.plain_state.proofs.room.claimed_pages.Goals as goal
 
 pub loop-claim-preserved : goal.loop-claim-preserved

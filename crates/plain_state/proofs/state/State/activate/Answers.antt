@@ -1,7 +1,6 @@
-use Rattle.std.proofs.Common.{◌≡◌, List, sym, ap, subst, ◌∙◌}
+use Rattle.std.proofs.Common.{List, sym, subst}
 use Rattle.system_judge.specs.Judgement.{verdict_of}
 use Rattle.store_model.specs.declared.events.LookedAt.{LookedAt}
-use Rattle.store_model.specs.State.{State}
 use Rattle.store_model.specs.Settling.{IsSeen}
 use Rattle.store_model.specs.Acts.Activate.{IsDueActivate, next_activate}
 use Rattle.plain_state.specs.Learning.{Forgets, IsSettled}

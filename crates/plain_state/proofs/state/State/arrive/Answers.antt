@@ -1,11 +1,8 @@
-use Rattle.std.proofs.Common.{◌≡◌, ◌≢◌, List, All, refl, sym, ap, subst, ◌∙◌, None}
-use Rattle.pkg_names.specs.NameAndVariant.{NameAndVariant}
+use Rattle.std.proofs.Common.{◌≢◌, List, All, refl, sym, ap, subst, ◌∙◌}
 use Rattle.package_indexes.specs.declared.Arriving.{Arriving}
-use Rattle.package_indexes.specs.Sets.{Sets}
 use Rattle.store_model.specs.declared.ends.BeginEnd.TheVariants as begun
 use Rattle.store_model.specs.State.{State, Arrival}
 use Rattle.store_model.specs.Acts.Begin.{next_begin}
-use Rattle.plain_state.specs.Views.{joined}
 use Rattle.plain_state.specs.contracts.state.State.{the_view}
 use Rattle.plain_state.proofs.Joined.{fresh_arriving, fresh_marks, last_goes, joined_last, marked_last}
 use Rattle.plain_state.proofs.state.State.arrive.Goals as goal

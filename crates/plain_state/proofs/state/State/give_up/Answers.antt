@@ -1,4 +1,4 @@
-use Rattle.std.proofs.Common.{◌≡◌, List, ap, ◌∙◌}
+use Rattle.std.proofs.Common.{List, ap, ◌∙◌}
 use Rattle.store_model.specs.State.{State, Arrival}
 use Rattle.store_model.specs.Acts.GaveUp.{next_gave_up}
 use Rattle.plain_state.specs.contracts.state.State.{the_view}

@@ -2,7 +2,7 @@ use Rattle.std.proofs.Common.{sym, ap, ◌∙◌, not, is_some, Option}
 use Rattle.pkg_names.specs.declared.root.Root.{Root}
 use Rattle.store_model.specs.State.{State}
 use Rattle.store_model.specs.Packages.{known_book}
-use Rattle.plain_state.proofs.Named.{complete_by}
+use Rattle.plain_stock.proofs.Named.{complete_by}
 use Rattle.plain_state.proofs.state.State.is_complete.Goals as goal
 
 pub returns-in-Some : goal.returns-in-Some

@@ -1,4 +1,4 @@
-use Rattle.std.proofs.Common.{◌≡◌, Bool, true, false, ◌||◌, List, map, refl, sym, ap, ◌∙◌}
+use Rattle.std.proofs.Common.{◌≡◌, Bool, false, ◌||◌, List, refl, sym, ap, ◌∙◌}
 use Rattle.std.specs.List.{list_any}
 use Rattle.pkg_names.specs.Root.{root_eq}
 use Rattle.pkg_names.specs.declared.root.Root.{Root}
@@ -6,7 +6,7 @@ use Rattle.pkg_names.specs.declared.pinned.Pinned.{Pinned}
 use Rattle.open_tracker.specs.declared.dirs.DirEntry.{DirEntry}
 use Rattle.package_indexes.specs.declared.Arriving.{Arriving}
 use Rattle.package_indexes.specs.Indexes.{roots_of}
-use Rattle.store_model.specs.State.{State, has_root, protected_in}
+use Rattle.store_model.specs.State.{State, has_root}
 use Rattle.plain_state.proofs.Protected.{any_of, joined_roots, arriving_roots, open_roots, protected_parts, from_base, from_cached, from_active, from_retained, from_arriving}
 use Rattle.plain_state.proofs.state.State.is_protected.Goals as goal
 

@@ -1,12 +1,9 @@
-use Rattle.std.proofs.Common.{◌≡◌, ◌≤◌, ℕ, List, [], ◌∷◌, ◌++◌, length, Some, sym, ap, subst, ◌∙◌, arith}
+use Rattle.std.proofs.Common.{◌≡◌, ◌≤◌, List, length, Some, sym, ap, subst, ◌∙◌, arith}
 use Rattle.std.specs.Prelude.{option_copied}
-use Rattle.std.proofs.lemmas.Bool.{leb-true}
 use Rattle.package_book.specs.declared.book.TheConstants.{META_LIMIT}
-use Rattle.package_book.specs.Books.Meta.{Read}
 use Rattle.store_model.specs.declared.events.LookedAt.{LookedAt}
 use Rattle.store_model.specs.State.{State}
 use Rattle.store_model.specs.Systems.{seen_bytes}
-use Rattle.plain_state.specs.Learning.{Learns}
 use Rattle.plain_state.specs.Looking.{LearnsAll, AreFrom}
 use Rattle.plain_state.proofs.Looking.{by_end, learns_one_more, from_one_more}
 use Rattle.plain_state.proofs.state.State.look.Goals as goal

@@ -1,4 +1,4 @@
-use Rattle.std.proofs.Common.{◌≡◌, Bool, true, false, ◌&&◌, is_some, None, sym, ap, ◌∙◌}
+use Rattle.std.proofs.Common.{◌&&◌, None, sym, ap, ◌∙◌}
 use Rattle.std.specs.Prelude.{nat_le}
 use Rattle.package_book.specs.declared.book.TheConstants.{META_LIMIT}
 use Rattle.store_model.specs.State.{State}

@@ -1,8 +1,7 @@
-use Rattle.std.proofs.Common.{◌≡◌, List, sym, ap, ◌∙◌, Some, None}
+use Rattle.std.proofs.Common.{List, sym, ap, ◌∙◌, Some, None}
 use Rattle.std.specs.Prelude.{option_copied}
 use Rattle.package_indexes.specs.declared.Arriving.{Arriving}
 use Rattle.package_indexes.specs.Sets.{arriving_with}
-use Rattle.fetch_queue.specs.Fetches.{mark_of}
 use Rattle.store_model.specs.State.{State}
 use Rattle.store_model.specs.Acts.Want.{want_answer}
 use Rattle.plain_state.specs.Views.{with_mark}

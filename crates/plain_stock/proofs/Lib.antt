@@ -1,0 +1,3 @@
+pub mod ContentsMap
+pub mod Named
+pub mod Stocks
