@@ -2,10 +2,11 @@
 //! each beside its plain body. Under the argument `time` it prints the least processor time of each.
 #![tactic(auto)]
 
-ghost use Rattle.std.specs.Prelude.{◌≡◌, ◌≤◌, [], true, vec_capacity};
+ghost use Rattle.std.specs.Prelude.{◌≡◌, ◌≤◌, [], true, IfOk, IfSome, vec_capacity};
 ghost use Rattle.page_pool.specs.Flags.{IsFree, free_count};
 
 use page_pool::{Pool, first_free_word, slow};
+use std::alloc::{AllocError, Global};
 use std::time::{CpuClock, Duration};
 use std::{env, io};
 
@@ -32,6 +33,30 @@ fn leave_last(pool: &mut Pool, pages: &mut Vec<u32>) -> bool
     }
     pool.give(&[LAST]);
     true
+}
+
+// A pool of which the last page alone is free.
+fn last_free(alloc: Global) -> Result<Option<Pool>, AllocError>
+    ensures { IfOk result (λ made. IfSome made (λ pool. (IsFree pool LAST) × (free_count pool ≡ 1))) }
+{
+    let mut pages = Vec::with_capacity(alloc, PAGES as usize)?;
+    let mut pool = Pool::new(alloc, PAGES)?;
+    if leave_last(&mut pool, &mut pages) {
+        Ok(Some(pool))
+    } else {
+        Ok(None)
+    }
+}
+
+// A plain pool of which one page is free.
+fn one_free(alloc: Global) -> Result<Option<slow::Pool>, AllocError> {
+    let mut pages = Vec::with_capacity(alloc, LAST as usize)?;
+    let mut pool = slow::Pool::new(alloc, PAGES)?;
+    if pool.take(LAST, &mut pages).is_ok() {
+        Ok(Some(pool))
+    } else {
+        Ok(None)
+    }
 }
 
 // Takes a page and gives it back so often, and what was taken.
@@ -88,13 +113,12 @@ fn nanos(start: Duration, end: Duration) -> u128 {
 }
 
 fn time<R: AllocGlobal + CpuClock + Print>(rt: &R) -> io::Result<()> {
-    let mut pages = Vec::with_capacity(rt.alloc(), PAGES as usize)?;
-    let mut pool = Pool::new(rt.alloc(), PAGES)?;
-    let mut plain = slow::Pool::new(rt.alloc(), PAGES)?;
-    let mut others = Vec::with_capacity(rt.alloc(), LAST as usize)?;
-    if !leave_last(&mut pool, &mut pages) || plain.take(LAST, &mut others).is_err() {
-        return println!(rt; "the pools could not be filled");
-    }
+    let Some(mut pool) = last_free(rt.alloc())? else {
+        return println!(rt; "the pool could not be filled");
+    };
+    let Some(mut plain) = one_free(rt.alloc())? else {
+        return println!(rt; "the plain pool could not be filled");
+    };
     let mut words = vec![in rt.alloc(); u64::MAX; WORDS]?;
     words[WORDS - 1] = u64::MAX >> 1;
     let mut page = Vec::with_capacity(rt.alloc(), 1)?;
