@@ -12,11 +12,9 @@ use Rattle.image_layout.specs.declared.ImageKind.{ImageKind}
 use Rattle.image_layout.specs.declared.ImageSum.{ImageSum}
 use Rattle.image_layout.specs.declared.Sys.{Sys}
 use Rattle.image_layout.specs.Sums.{image_sum}
-use Rattle.slot_disk.specs.declared.part.Parts.{Parts}
-use Rattle.slot_disk.specs.Filling.{Images, HoldsImages, AreFilled}
 use Rattle.image_layout.specs.Geometry.{IsIn, slot_region}
 use Rattle.slot_disk.specs.Areas.{area_region, header_page}
-use Rattle.slot_disk.specs.Slots.{SlotsView, with_boot, with_sys, with_broken, is_needed, HasSystem, HasRecord, HasNeeded, Has, Fits, IsSlotsPage, recovery_system}
+use Rattle.slot_disk.specs.Slots.{SlotsView, with_boot, with_sys, with_broken, is_needed, HasRecord, HasNeeded, Has, Fits, IsSlotsPage, recovery_system}
 use Rattle.slot_disk.proofs.SystemLemmas.{slots_apart, behind_record, header_within, area_within}
 use Rattle.slot_disk.proofs.Standing.{needed_depends, needed_boot, has_outside, has_with_sys, has_broken}
 

@@ -1,0 +1,5 @@
+mod Named
+mod Entries
+mod Alike
+mod Told
+mod SlotLemmas

@@ -1,0 +1,4 @@
+pub mod Look
+pub mod Seen
+pub mod Whole
+pub mod Slots

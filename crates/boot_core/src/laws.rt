@@ -1,0 +1,15 @@
+//! Laws of slots whose systems are whole.
+
+ghost use Rattle.std.specs.Prelude.{List};
+ghost use Rattle.abr_record.specs.Boot.{boot_slot};
+ghost use Rattle.disk_model.specs.Past.{Pages};
+ghost use Rattle.slot_disk.specs.Slots.{SlotsView};
+ghost use Rattle.boot_core.specs.declared.looking.SeenBlob.{SeenBlob as SeenBlobOf};
+ghost use Rattle.boot_core.specs.Slots.{HasWholeSlots, IsRecoveryOrWhole};
+
+/// The slot that an image boots is recovery with good pages, or is whole, where each of A and B is whole
+/// that can be booted.
+pub fn booted_slots_are_whole()
+    ensures { (slots : SlotsView) (all : List SeenBlobOf) (image : Pages) → HasWholeSlots slots all image
+        → IsRecoveryOrWhole slots all (boot_slot slots.boot) image }
+{}
