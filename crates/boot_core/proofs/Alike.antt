@@ -1,12 +1,11 @@
 -- A judgement by what was looked at is the one by all blobs, unless it rests on one that wasn't looked at.
-use Rattle.std.proofs.Common.{◌≡◌, ◌⊎◌, inl, inr, ℕ, Bool, true, false, not, List, [], ◌∷◌, length, Option, Some, None, IfSome, is_some, refl, sym, ap, ◌∙◌, subst, cond}
+use Rattle.std.proofs.Common.{◌≡◌, ◌⊎◌, inl, inr, ℕ, true, false, not, List, [], ◌∷◌, length, Option, Some, None, is_some, refl, sym, ap, ◌∙◌, subst, cond}
 use Rattle.std.specs.Prelude.{find, nat_lt, Result, Ok, Err}
 use Rattle.std.specs.Option.{option_map}
 use Rattle.std.proofs.lemmas.Bool.{cases_Bool}
 use Rattle.pkg_names.specs.declared.root.Root.{Root}
 use Rattle.pkg_names.specs.declared.pinned.Pinned.{Pinned}
 use Rattle.package_book.specs.Books.{Meta, Books, book_at}
-use Rattle.package_book.specs.Names.{names}
 use Rattle.system_lists.specs.declared.list.TheConstants.{LIST_LIMIT}
 use Rattle.system_lists.specs.declared.fault.SystemFault.{SystemFault}
 use Rattle.system_lists.specs.declared.fault.SystemFault.TheVariants.{NoBook, BadBase}

@@ -1,16 +1,17 @@
 -- What was looked at grows by one blob.
-use Rattle.std.proofs.Common.{◌≡◌, inl, inr, ℕ, ◌<◌, ◌≤◌, Bool, true, false, List, [], ◌∷◌, ◌++◌, length, Option, Some, None, is_some, IfSome, refl, sym, ap, ◌∙◌, subst}
+use Rattle.std.proofs.Common.{◌≡◌, inl, inr, ℕ, ◌<◌, ◌≤◌, true, false, List, [], ◌∷◌, ◌++◌, length, Option, Some, None, is_some, IfSome, refl, sym, ap, ◌∙◌, subst}
 use Rattle.std.specs.Option.{option_map}
 use Rattle.std.proofs.lemmas.Bool.{cases_Bool}
 use Rattle.pkg_names.specs.declared.root.Root.{Root}
 use Rattle.pkg_names.specs.Root.{root_eq}
 use Rattle.pkg_names.proofs.Roots.{root_eq-true}
+use Rattle.pkg_merkle.specs.Merkle.{merkle_root}
 use Rattle.package_book.specs.declared.book.TheConstants.{META_LIMIT}
 use Rattle.package_book.specs.Books.{Meta, Books, book_at, Sets}
 use Rattle.package_book.specs.Books.Meta.{Read, Long}
 use Rattle.boot_core.specs.declared.looking.SeenBlob.{SeenBlob}
 use Rattle.boot_core.specs.declared.seen.Seen.{Seen}
-use Rattle.boot_core.specs.Look.{Stocked, len_in, bytes_in, stock_of, IsBlob}
+use Rattle.boot_core.specs.Look.{Stocked, len_in, bytes_in, stock_of, IsBlob, AreHonest}
 use Rattle.boot_core.specs.Seen.{IsEntry, IsToldEntry, AreEntries, AreToldEntries, AreSeen}
 
 -- a blob behind others is found where none of them has its root
@@ -46,6 +47,28 @@ len_of_bytes (blob ∷ all) root = elim (cases_Bool (root_eq blob.root root)) [
   | inl here ↦ rw here refl
   | inr other ↦ rw other (len_of_bytes all root)
 ]
+
+-- the length of a blob that is found, and its root
+pub found_len : (all : List SeenBlob) (root : Root) (bytes : List ℕ) → bytes_in all root ≡ Some bytes → len_in (stock_of all) root ≡ Some (length bytes)
+found_len all root bytes found = len_of_bytes all root ∙ ap (option_map (λ (text : List ℕ). length text)) found
+
+pub missing_len : (all : List SeenBlob) (root : Root) → bytes_in all root ≡ None → len_in (stock_of all) root ≡ None
+missing_len all root none = len_of_bytes all root ∙ ap (option_map (λ (text : List ℕ). length text)) none
+
+pub found_root : (all : List SeenBlob) (root : Root) (bytes : List ℕ) → AreHonest all → bytes_in all root ≡ Some bytes → merkle_root bytes ≡ root
+found_root [] root bytes honest found = absurd cc
+found_root (blob ∷ all) root bytes honest found = elim (cases_Bool (root_eq blob.root root)) [
+  | inl here ↦
+      let is : bytes_in (blob ∷ all) root ≡ Some blob.bytes = rw here refl in
+      let same : blob.bytes ≡ bytes = cc in
+      ap merkle_root (sym same) ∙ honest.0 ∙ root_eq-true blob.root root here
+  | inr other ↦
+      let later : bytes_in (blob ∷ all) root ≡ bytes_in all root = rw other refl in
+      found_root all root bytes honest.1 (sym later ∙ found)
+]
+
+pub found_blob : (all : List SeenBlob) (root : Root) (bytes : List ℕ) → AreHonest all → bytes_in all root ≡ Some bytes → IsBlob (stock_of all) root bytes
+found_blob all root bytes honest found = record { len = found_len all root bytes found; has_root = found_root all root bytes honest found }
 
 -- ---- what was looked at, as a whole
 

@@ -1,14 +1,13 @@
 -- The slot that a record boots is one that it needs.
-use Rattle.std.proofs.Common.{arith, ◌≡◌, ◌≢◌, inl, inr, Bool, true, false, not, List, refl, sym, ◌∙◌, ap, subst, Option, Some, None, cond}
+use Rattle.std.proofs.Common.{arith, ◌≡◌, true, List, refl, Option, Some, None}
 use Rattle.std.specs.Prelude.{IsSomeAnd}
-use Rattle.std.proofs.lemmas.Bool.{cases_Bool}
 use Rattle.abr_record.specs.declared.Slot.{Slot}
 use Rattle.abr_record.specs.declared.Slot.TheVariants.{A, B, R}
 use Rattle.abr_record.specs.declared.Record.{Record}
-use Rattle.abr_record.specs.Boot.{is_bootable, is_a_first, boot_slot}
+use Rattle.abr_record.specs.Boot.{boot_slot}
 use Rattle.disk_model.specs.Past.{Pages}
 use Rattle.image_layout.specs.declared.Sys.{Sys}
-use Rattle.slot_disk.specs.Slots.{SlotsView, sys_of, is_needed, HasSystem}
+use Rattle.slot_disk.specs.Slots.{SlotsView, is_needed, HasSystem}
 use Rattle.boot_core.specs.declared.looking.SeenBlob.{SeenBlob}
 use Rattle.boot_core.specs.Slots.{IsWholeSystem, IsWhole, HasWholeSlots, IsRecoveryOrWhole}
 

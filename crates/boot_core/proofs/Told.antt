@@ -1,12 +1,12 @@
 -- What was looked at is known by the bytes of all blobs, where these are told.
-use Rattle.std.proofs.Common.{◌≡◌, ◌⊎◌, inl, inr, ℕ, ◌<◌, ◌≤◌, Bool, true, false, List, [], ◌∷◌, length, Option, Some, None, IfSome, refl, sym, ap, ◌∙◌, subst, arith}
-use Rattle.std.specs.Prelude.{nat_lt, Result, Ok, Err, IfOk}
+use Rattle.std.proofs.Common.{◌≡◌, ◌⊎◌, inl, inr, ℕ, ◌<◌, ◌≤◌, false, List, [], ◌∷◌, length, Option, Some, None, IfSome, refl, sym, ap, ◌∙◌, subst, arith}
+use Rattle.std.specs.Prelude.{Result, Ok, Err, IfOk}
 use Rattle.std.specs.Option.{option_map}
 use Rattle.std.proofs.lemmas.Bool.{cases_Bool}
 use Rattle.pkg_names.specs.declared.root.Root.{Root}
 use Rattle.pkg_names.specs.Root.{root_eq}
 use Rattle.package_book.specs.declared.book.TheConstants.{META_LIMIT}
-use Rattle.package_book.specs.Books.{Meta, Books, book_at}
+use Rattle.package_book.specs.Books.{Meta, book_at}
 use Rattle.package_book.specs.Books.Meta.{Read, Long}
 use Rattle.system_lists.specs.Judging.{Verdict, judged}
 use Rattle.system_lists.specs.Judging.Verdict.{Whole}
@@ -15,7 +15,7 @@ use Rattle.boot_core.specs.declared.seen.Seen.{Seen}
 use Rattle.boot_core.specs.declared.wholeness.BaseOf.{BaseOf}
 use Rattle.boot_core.specs.declared.wholeness.WholeFault.{WholeFault}
 use Rattle.boot_core.specs.Look.{Stocked, bytes_in, stock_of}
-use Rattle.boot_core.specs.Seen.{meta_of, books_in, hand, IsEntry, IsToldEntry, AreEntries, AreToldEntries, AreSeen}
+use Rattle.boot_core.specs.Seen.{meta_of, books_in, hand, IsEntry, IsToldEntry, AreEntries, AreSeen}
 use Rattle.boot_core.specs.Whole.{is_open, said, plainly, verdict_on, IsBySeen}
 use Rattle.boot_core.proofs.Alike.{judged_told}
 

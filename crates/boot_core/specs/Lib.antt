@@ -2,3 +2,4 @@ pub mod Look
 pub mod Seen
 pub mod Whole
 pub mod Slots
+pub mod MemoryLook

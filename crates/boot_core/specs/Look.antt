@@ -1,5 +1,6 @@
 -- What a store is seen as that can be looked into, and what a look answers.
 use Rattle.std.specs.Prelude.{ℕ, ◌≡◌, ◌≢◌, ◌<◌, ◌≤◌, ⊤, List, [], ◌∷◌, map, length, Option, Some, None, if◌then◌else◌}
+use Rattle.std.specs.List.{AllByRecursion}
 use Rattle.pkg_names.specs.declared.root.Root.{Root}
 use Rattle.pkg_names.specs.Root.{root_eq}
 use Rattle.pkg_merkle.specs.Merkle.{merkle_root}
@@ -32,6 +33,10 @@ stock_of blobs = map stocked blobs
 pub record IsBlob (stock : List Stocked) (root : Root) (bytes : List ℕ) : Type 0 where
   pub len : len_in stock root ≡ Some (length bytes)
   pub has_root : merkle_root bytes ≡ root
+
+-- each blob stands under its own root
+abbrev pub AreHonest : List SeenBlob → Type 0
+AreHonest blobs = AllByRecursion (λ (blob : SeenBlob). merkle_root blob.bytes ≡ blob.root) blobs
 
 -- the blob is stored, and has at most so many bytes
 pub record IsWithin (stock : List Stocked) (root : Root) (limit : ℕ) : Type 0 where

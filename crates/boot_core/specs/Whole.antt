@@ -1,5 +1,5 @@
 -- Whether a system is whole, and what is answered.
-use Rattle.std.specs.Prelude.{ℕ, ◌≡◌, ⊤, not, Bool, false, List, Option, Some, None, is_some, Result, Ok, Err}
+use Rattle.std.specs.Prelude.{◌≡◌, ⊤, not, Bool, false, List, Option, Some, None, is_some, Result, Ok, Err}
 use Rattle.pkg_names.specs.declared.root.Root.{Root}
 use Rattle.package_book.specs.Books.{Books, book_at}
 use Rattle.system_lists.specs.declared.fault.SystemFault.{SystemFault}

@@ -7,12 +7,12 @@ mod boot;
 mod hand;
 mod laws;
 mod looking;
+mod memory;
 mod seen;
 mod wholeness;
 
 pub use boot::{BootStep, boot_step};
 pub use laws::booted_slots_are_whole;
 pub use looking::{Look, LookReply, SeenBlob};
-
+pub use memory::MemLook;
 pub use wholeness::{BaseOf, WholeFault, whole};
-

@@ -81,12 +81,7 @@ pub fn whole<L: Look>(alloc: Global, look: &mut L, sys: &Sys) -> Result<BaseOf, 
 }
 
 // The blob that has to be looked at before the judgement counts.
-fn open_blob<L: Look>(
-    look: &L,
-    seen: &Seen,
-    system: &Root,
-    judgement: &Judgement,
-) -> Option<Root>
+fn open_blob<L: Look>(look: &L, seen: &Seen, system: &Root, judgement: &Judgement) -> Option<Root>
     ensures { result ≡ None → is_open (L.stock look.now) seen.now.books system.now
         (verdict_of judgement.now) ≡ false }
 {

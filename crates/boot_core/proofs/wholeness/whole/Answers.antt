@@ -1,7 +1,6 @@
 use Rattle.std.proofs.Common.{refl, ◌∙◌, ap, subst, List, false}
 use Rattle.std.specs.Prelude.{◌≡◌}
 use Rattle.system_lists.specs.Judging.{Verdict, judged}
-use Rattle.boot_core.specs.declared.looking.SeenBlob.{SeenBlob}
 use Rattle.boot_core.specs.Look.{Stocked}
 use Rattle.boot_core.specs.Seen.{hand}
 use Rattle.boot_core.specs.Whole.{is_open}
