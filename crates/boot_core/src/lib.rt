@@ -1,6 +1,6 @@
 //! Whether a system is whole, read through a store that can be looked into, and the step of a boot.
 //!
-//! `docs/system_lists.md` has the rules of a whole system, and `docs/boot_record.md` those of a boot.
+//! `docs/model.md` has the rules of a whole system, and `docs/boot_record.md` those of a boot.
 #![tactic(auto)]
 
 mod boot;

@@ -50,7 +50,7 @@ impl From<AllocError> for WholeFault {
     }
 }
 
-/// Looks whether the system of a slot is whole (`docs/system_lists.md`). The first thing that is wrong
+/// Looks whether the system of a slot is whole (`docs/model.md`). The first thing that is wrong
 /// counts, and a blob that can't be read counts where it is needed.
 pub fn whole<L: Look>(alloc: Global, look: &mut L, sys: &Sys) -> Result<BaseOf, WholeFault>
     ensures seen { IfOk result (λ found. IsBySeen (L.stock look.old) found.seen sys.now.system
@@ -155,10 +155,16 @@ fn answer(judgement: Judgement, seen: Seen) -> Result<BaseOf, WholeFault>
         Judgement::Missing(root) => Err(WholeFault::BaseMissing { root }),
         Judgement::Faulty(why) => Err(WholeFault::NotASystem { why }),
         Judgement::Unread(root) => Err(WholeFault::BaseMissing { root }),
-        Judgement::Whole { base, cached } => Ok(BaseOf {
-            base,
-            cached,
-            seen: Items::make(seen.blobs),
-        }),
+        Judgement::Whole { base, cached } => Ok(found(base, cached, seen)),
+    }
+}
+
+fn found(base: PinnedList, cached: PinnedList, seen: Seen) -> BaseOf
+    ensures { result ≡ record { base = base; cached = cached; seen = seen.blobs.items } }
+{
+    BaseOf {
+        base,
+        cached,
+        seen: Items::make(seen.blobs),
     }
 }
