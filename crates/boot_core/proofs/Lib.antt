@@ -3,3 +3,4 @@ mod Entries
 mod Alike
 mod Told
 mod SlotLemmas
+mod Complete

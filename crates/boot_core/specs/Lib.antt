@@ -3,3 +3,4 @@ pub mod Seen
 pub mod Whole
 pub mod Slots
 pub mod MemoryLook
+pub mod Complete

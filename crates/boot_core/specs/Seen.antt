@@ -58,7 +58,8 @@ abbrev pub IsEntry : List Stocked → Root → Option Meta → Option (List ℕ)
 IsEntry stock root None None = ⊤
 IsEntry stock root None (Some bytes) = ⊥
 IsEntry stock root (Some (Read meta)) None = ⊥
-IsEntry stock root (Some (Read meta)) (Some bytes) = (meta ≡ bytes) × (length bytes ≤ META_LIMIT) × IsBlob stock root bytes
+IsEntry stock root (Some (Read meta)) (Some bytes) =
+    (meta ≡ bytes) × (length bytes ≤ META_LIMIT) × IsBlob stock root bytes
 IsEntry stock root (Some (Long len)) None = (META_LIMIT < len) × (len_in stock root ≡ Some len)
 IsEntry stock root (Some (Long len)) (Some bytes) = ⊥
 

@@ -34,4 +34,5 @@ pub record HasWholeSlots (slots : SlotsView) (all : List SeenBlob) (image : Page
 -- the slot is recovery with good pages, or is whole
 abbrev pub IsRecoveryOrWhole : SlotsView → List SeenBlob → Slot → Pages → Type 0
 IsRecoveryOrWhole slots all R image = IsSomeAnd slots.recovery (λ sys. HasSystem slots.geometry R sys image)
-IsRecoveryOrWhole slots all slot image = IsSomeAnd (sys_of slots slot) (λ sys. IsWhole slots.geometry slot sys all image)
+IsRecoveryOrWhole slots all slot image =
+    IsSomeAnd (sys_of slots slot) (λ sys. IsWhole slots.geometry slot sys all image)

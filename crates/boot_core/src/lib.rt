@@ -12,7 +12,7 @@ mod seen;
 mod wholeness;
 
 pub use boot::{BootStep, boot_step};
-pub use laws::booted_slots_are_whole;
+pub use laws::{booted_slots_are_whole, whole_systems_are_complete};
 pub use looking::{Look, LookReply, SeenBlob};
 pub use memory::MemLook;
 pub use wholeness::{BaseOf, WholeFault, whole};

@@ -58,7 +58,8 @@ pub(crate) fn bytes_in<'a>(blobs: &'a [SeenBlob], root: &Root) -> Option<&'a [u8
 fn keep(alloc: Global, seen: &mut Seen, root: Root, bytes: Bytes) -> Result<(), AllocError>
     requires { book_at seen.old.books root ≡ None }
     ensures books { OnOk result (Sets root (Some (Read bytes)) seen.old.books seen.new.books) }
-    ensures blobs { OnOk result (seen.new.blobs.items ≡ seen.old.blobs.items ++ record { root = root; bytes = bytes } ∷ []) }
+    ensures blobs { OnOk result (seen.new.blobs.items
+        ≡ seen.old.blobs.items ++ record { root = root; bytes = bytes } ∷ []) }
     ensures err { OnErr result ((seen.new.books ≡ seen.old.books)
         × (seen.new.blobs.items ≡ seen.old.blobs.items)) }
 {

@@ -9,7 +9,7 @@ ghost use Rattle.boot_core.specs.Look.{IsRotten};
 ghost use Rattle.boot_core.specs.Seen.{AreSeen};
 ghost use Rattle.boot_core.specs.declared.looking.SeenBlob.{SeenBlob as SeenBlobOf};
 ghost use Rattle.boot_core.specs.declared.wholeness.WholeFault.TheVariants as fault;
-ghost use Rattle.boot_core.specs.Whole.{said, plainly, verdict_on, is_open, IsBySeen, IsLookFault};
+ghost use Rattle.boot_core.specs.Whole.{said, plainly, verdict_on, is_open, IsBySeen};
 
 use crate::hand::{judge_seen, outer};
 use crate::looking::{Look, SeenBlob};
@@ -73,7 +73,10 @@ pub fn whole<L: Look>(alloc: Global, look: &mut L, sys: &Sys) -> Result<BaseOf, 
     for _ in 0..u64::MAX {
         let judgement = judge_seen(alloc, look, &seen, &sys.system)?;
         match open_blob(look, &seen, &sys.system, &judgement) {
-            Some(root) => look_on(alloc, look, &mut seen, &sys.system, &root)?,
+            Some(root) => {
+                look_at(alloc, look, &mut seen, &root)?;
+                look_ahead(alloc, look, &mut seen, &sys.system);
+            }
             None => return answer(judgement, seen),
         }
     }
@@ -96,27 +99,6 @@ fn open_blob<L: Look>(look: &L, seen: &Seen, system: &Root, judgement: &Judgemen
     } else {
         Some(root)
     }
-}
-
-// Looks at a blob, and then ahead.
-fn look_on<L: Look>(
-    alloc: Global,
-    look: &mut L,
-    seen: &mut Seen,
-    system: &Root,
-    root: &Root,
-) -> Result<(), WholeFault>
-    ensures seen { AreSeen (L.stock look.old) (L.blobs look.old) seen.old
-        → AreSeen (L.stock look.old) (L.blobs look.old) seen.new }
-    ensures fault { IfErr result (IsLookFault (L.stock look.old) (L.blobs look.old)) }
-    ensures cause { result ≡ Err WholeFault.Read → Rose (L.faults look.old) (L.faults look.new) }
-    ensures stock_stays { L.stock look.new ≡ L.stock look.old }
-    ensures blobs_stay { L.blobs look.new ≡ L.blobs look.old }
-    ensures faults_never_fall { L.faults look.old ≤ L.faults look.new }
-{
-    look_at(alloc, look, seen, root)?;
-    look_ahead(alloc, look, seen, system);
-    Ok(())
 }
 
 // Looks at the packages of the base, which are needed next, once the static list is known. What fails here

@@ -1,6 +1,6 @@
 //! Calls of slots that look first whether they may be made.
 
-ghost use Rattle.std.specs.Prelude.{◌≡◌, ◌≤◌, IsTrue};
+ghost use Rattle.std.specs.Prelude.{◌≡◌, ◌≤◌, false, IsTrue};
 ghost use Rattle.image_layout.specs.Geometry.{IsWithinLimits, total_pages};
 ghost use Rattle.slot_disk.specs.Areas.{area_size};
 ghost use Rattle.slot_disk.specs.Slots.{is_needed};
@@ -103,6 +103,19 @@ pub fn fill(slots: &Slots, slot: Slot) -> Option<Filling> {
     Some(slots.fill(slot))
 }
 
+// Whether a filling may be written to.
+fn may_write<D: Disk>(slots: &Slots, disk: &D, filling: &Filling) -> bool
+    ensures unbroken { IsTrue result → slots.now.broken ≡ false }
+    ensures whole { IsTrue result → filling.now.broken ≡ false }
+    ensures unneeded { IsTrue result → is_needed slots.now.boot filling.now.slot ≡ false }
+    ensures room { IsTrue result → total_pages slots.now.geometry ≤ D.pages disk.now }
+{
+    !slots.is_broken()
+        && !filling.is_broken()
+        && !is_needed(&slots.boot_record(), filling.slot())
+        && has_room(disk, slots.geometry())
+}
+
 /// Appends a piece.
 pub fn append<D: Disk>(
     slots: &Slots,
@@ -111,15 +124,10 @@ pub fn append<D: Disk>(
     image: ImageKind,
     bytes: &[u8],
 ) -> Option<SlotEnd> {
-    let geometry = *slots.geometry();
-    if slots.is_broken()
-        || filling.is_broken()
-        || is_needed(&slots.boot_record(), filling.slot())
-        || !has_room(disk, &geometry)
-    {
+    if !may_write(slots, disk, filling) {
         return None;
     }
-    let room = area_size(&geometry, image);
+    let room = area_size(slots.geometry(), image);
     let have = filling.have(image);
     if have > room || bytes.len() as u64 > room - have {
         return None;
@@ -134,12 +142,7 @@ pub fn seal<D: Disk>(
     filling: &mut Filling,
     sys: &Sys,
 ) -> Option<SealEnd> {
-    let geometry = *slots.geometry();
-    if slots.is_broken()
-        || filling.is_broken()
-        || is_needed(&slots.boot_record(), filling.slot())
-        || !has_room(disk, &geometry)
-    {
+    if !may_write(slots, disk, filling) {
         return None;
     }
     Some(slots.seal(disk, filling, sys))
