@@ -1,12 +1,12 @@
 -- A system of which nothing is wrong is complete.
-use Rattle.std.proofs.Common.{◌≡◌, ◌≢◌, ◌⊎◌, inl, inr, ℕ, ◌≤◌, Bool, true, false, not, List, [], ◌∷◌, length, Option, Some, None, is_some, refl, sym, ap, ◌∙◌, subst, cond, lt-ltb}
-use Rattle.std.specs.Prelude.{find, nat_lt, ◌&&◌, Result, Ok, Err}
+use Rattle.std.proofs.Common.{◌≡◌, inl, inr, ℕ, ◌≤◌, Bool, true, false, not, List, [], ◌∷◌, length, Option, Some, None, is_some, refl, sym, ap, ◌∙◌, subst, cond, lt-ltb, le-ltb}
+use Rattle.std.specs.Prelude.{find, ◌&&◌, Result, Ok, Err}
 use Rattle.std.specs.List.{AllByRecursion}
 use Rattle.std.specs.Option.{option_map}
 use Rattle.std.proofs.lemmas.Bool.{cases_Bool, cases_lt}
 use Rattle.pkg_names.specs.declared.root.Root.{Root}
 use Rattle.pkg_names.specs.declared.pinned.Pinned.{Pinned}
-use Rattle.package_book.specs.Books.{Meta, Books, book_at}
+use Rattle.package_book.specs.Books.{book_at}
 use Rattle.package_book.specs.Book.{MetaAndFiles, outer_at}
 use Rattle.package_book.specs.Names.{names}
 use Rattle.system_lists.specs.declared.list.TheConstants.{LIST_LIMIT}
@@ -214,3 +214,86 @@ module _ (all : List SeenBlob) where
       let own = complete system (there_of system a.0) (known_of system NoBook b.0) (no_missing system (at.outer system static_name) (at.outer system cached_name) base cached b.1) in
       by_files system base cached own (at.outer system static_name) (at.outer system cached_name)
       (ap (λ (m : Option MetaAndFiles). outer_of m static_name) own.is_book) (ap (λ (m : Option MetaAndFiles). outer_of m cached_name) own.is_book) b.1
+
+-- ---- a complete system is judged to be whole
+
+skip : (x : Option Verdict) (xs : List (Option Verdict)) (v : Verdict) → x ≡ None → first_of (x ∷ xs) v ≡ first_of xs v
+skip x xs v none = ap (λ (z : Option Verdict). first_of (z ∷ xs) v) none
+
+read_text : (root : Root) (long : Option ℕ) (text : List ℕ) → unread_text root long (Some text) ≡ None
+read_text root None text = refl
+read_text root (Some len) text = refl
+
+module _ (all : List SeenBlob) where
+  len_by : (root : Root) → is_some (bytes_in all root) ≡ true → is_some (len_in (stock_of all) root) ≡ true
+  len_by root h = ap (λ (x : Option ℕ). is_some x) (len_of_bytes all root) ∙ some_map (bytes_in all root) ∙ h
+
+  bytes_by : (root : Root) → IsComplete all root → is_some (bytes_in all root) ≡ true
+  bytes_by root is = ap (λ (x : Option (List ℕ)). is_some x) is.stored
+
+  not_absent : (root : Root) → IsComplete all root → absent (at all) root ≡ None
+  not_absent root is = ap (λ (t : Bool). cond (t && true) None (Some (Missing root))) (len_by root (bytes_by root is))
+
+  not_unknown : (root : Root) (why : SystemFault) → IsComplete all root → no_book (at all) why root ≡ None
+  not_unknown root why is = ap (λ (m : Option MetaAndFiles). cond (is_some m) None (Some (Faulty why))) is.is_book
+
+  none_missing : (roots : List Root) → AllByRecursion (λ name. is_some (bytes_in all name) ≡ true) roots → find (λ name. not (is_some (len_in (stock_of all) name))) roots ≡ None
+  none_missing [] h = refl
+  none_missing (root ∷ roots) h =
+      ap (λ (t : Bool). cond (not t) (Some root) (find (λ name. not (is_some (len_in (stock_of all) name))) roots)) (len_by root h.0) ∙ none_missing roots h.1
+
+  not_missing : (root : Root) → IsComplete all root → missing_name (at all) root ≡ None
+  not_missing root is = ap (option_map Missing) (none_missing (names root (books_in all)) is.named)
+
+  base_passes : (pairs : List Pinned) (w : Verdict) → AllByRecursion (λ (pair : Pinned). IsComplete all pair.root) pairs → first_of (base_faults (at all) pairs) w ≡ w
+  base_passes [] w h = refl
+  base_passes (pair ∷ pairs) w h =
+      let root : Root = pair.root in
+      skip (absent (at all) root) (no_book (at all) (BadBase root) root ∷ missing_name (at all) root ∷ base_faults (at all) pairs) w (not_absent root h.0)
+      ∙ skip (no_book (at all) (BadBase root) root) (missing_name (at all) root ∷ base_faults (at all) pairs) w (not_unknown root (BadBase root) h.0)
+      ∙ skip (missing_name (at all) root) (base_faults (at all) pairs) w (not_missing root h.0)
+      ∙ base_passes pairs w h.1
+
+  not_long : (root : Root) (list : HasList all root) → long_len (len_in (stock_of all) root) ≡ None
+  not_long root list =
+      let short : long_len (Some (length list.text)) ≡ None = rw (le-ltb LIST_LIMIT (length list.text) list.short) refl in
+      ap long_len (len_of_bytes all root ∙ ap (option_map (λ (t : List ℕ). length t)) list.stored) ∙ short
+
+  is_read : (root : Root) → HasList all root → unread (at all) root ≡ None
+  is_read root list = ap (λ (t : Option (List ℕ)). unread_text root (long_len (len_in (stock_of all) root)) t) list.stored ∙ read_text root (long_len (len_in (stock_of all) root)) list.text
+
+  static_is : (root : Root) (list : HasList all root) (packages : List Pinned) → static_of list.text ≡ Ok packages → static_list (at all) root ≡ Ok packages
+  static_is root list packages says =
+      ap (λ (l : Option ℕ). static_from l (static_of (text_of (bytes_in all root)))) (not_long root list)
+      ∙ ap (λ (t : Option (List ℕ)). static_from None (static_of (text_of t))) list.stored
+      ∙ ap (λ (r : Result (List Pinned) StaticFault). static_from None r) says
+
+  cached_is : (root : Option Root) (packages : List Pinned) → IsCachedBy all root packages → (unread_named (at all) root ≡ None) × (cached_list (at all) root ≡ Ok packages)
+  cached_is None packages h = (refl, ap (λ (l : List Pinned). Ok l) (sym h))
+  cached_is (Some root) packages h = (
+    is_read root h.0,
+    ap (λ (l : Option ℕ). cached_from l (cached_of (text_of (bytes_in all root)))) (not_long root h.0)
+        ∙ ap (λ (t : Option (List ℕ)). cached_from None (cached_of (text_of t))) h.0.stored
+        ∙ ap (λ (r : Result (List Pinned) CachedFault). cached_from None r) h.1,
+  )
+
+  pub complete_whole : (system : Root) (base cached : List Pinned) → IsCompleteSystem all system base cached → judged (at all) system ≡ Whole base cached
+  complete_whole system base cached is =
+      let named : Option Root = outer_at cached_name is.own.book.outer in
+      let c = cached_is named cached is.cached_says in
+      let first : Pinned = record { path = system_path; root = system } in
+      let v : Verdict = judged_lists (at all) system (static_list (at all) is.listed) (cached_list (at all) named) in
+      let w : Verdict = judged_files (at all) system ((at all).outer system static_name) ((at all).outer system cached_name) in
+      let st : (at all).outer system static_name ≡ Some is.listed = ap (λ (m : Option MetaAndFiles). outer_of m static_name) is.own.is_book ∙ is.lists in
+      let ca : (at all).outer system cached_name ≡ named = ap (λ (m : Option MetaAndFiles). outer_of m cached_name) is.own.is_book in
+      skip (absent (at all) system) (no_book (at all) NoBook system ∷ []) w (not_absent system is.own)
+      ∙ skip (no_book (at all) NoBook system) [] w (not_unknown system NoBook is.own)
+      ∙ ap (λ (s : Option Root). judged_files (at all) system s ((at all).outer system cached_name)) st
+      ∙ ap (λ (s : Option Root). judged_files (at all) system (Some is.listed) s) ca
+      ∙ skip (missing_name (at all) system) (unread (at all) is.listed ∷ unread_named (at all) named ∷ []) v (not_missing system is.own)
+      ∙ skip (unread (at all) is.listed) (unread_named (at all) named ∷ []) v (is_read is.listed is.list)
+      ∙ skip (unread_named (at all) named) [] v c.0
+      ∙ ap (λ (r : Result (List Pinned) SystemFault). judged_lists (at all) system r (cached_list (at all) named)) (static_is is.listed is.list is.packages is.says)
+      ∙ ap (λ (r : Result (List Pinned) SystemFault). judged_lists (at all) system (Ok is.packages) r) c.1
+      ∙ base_passes is.packages (Whole (first ∷ is.packages) cached) is.complete
+      ∙ ap (λ (l : List Pinned). Whole l cached) (sym is.base_is)
