@@ -1,0 +1,5 @@
+pub mod Goes
+pub mod Places
+pub mod Closes
+pub mod Desks
+pub mod Wholes

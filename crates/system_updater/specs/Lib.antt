@@ -1,0 +1,5 @@
+pub mod Plan
+pub mod Serving
+pub mod Holding
+pub mod Viewing
+pub mod Steps
