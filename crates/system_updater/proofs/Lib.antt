@@ -3,3 +3,4 @@ pub mod Places
 pub mod Closes
 pub mod Desks
 pub mod Wholes
+pub mod Judging

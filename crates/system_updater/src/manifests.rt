@@ -16,7 +16,7 @@ use crate::reply::UpdateReply;
 use pkg_names::{Bytes, read_file};
 use std::alloc::Global;
 use store_model::{Desk, Dir, ReadReply, RejectReply};
-use system_lists::{ManifestFault, ManifestFile};
+use system_lists::{ManifestFault, ManifestFile, lists_are_made_of_entries};
 use update_manifest::{Images, PinnedList, read_epoch, read_images, read_packages};
 
 // Why the manifests weren't read to their end.
@@ -169,6 +169,7 @@ fn judge_packages(alloc: Global, found: Option<Bytes>) -> Result<PinnedList, Ref
         (judged dir (EpochRead epoch) found) }
     ensures few { IfOk result (λ packages. length packages ≤ ENTRY_LIMIT) }
 {
+    lists_are_made_of_entries();
     let file = ManifestFile::Packages;
     let Some(bytes) = found else {
         return Err(refusal_with(file, ManifestFault::Missing));
