@@ -134,6 +134,18 @@ module _ (path : NameAndVariant) (pin : Option Root) (reply : ResolveReply) (old
       (subst (λ (o : Option Root). Resolves path o (after_resolve (λ from. Copying dir plan task from later) (left dir)) leg to) same_pin r))
       (λ base from now at with_dir. (held_by old, at, with_dir)) (λ base r at. staged_left old.lane dir Fills r base (held_by old) at)
 
+-- where a refusal leads
+pub refused_at : (opened : Dir → Point) (ended : UpdateReply → Point) (reply : ResolveReply) → ((dir : Dir) → reply ≡ resolved.Resolved dir → ⊥) → after_resolve opened ended reply ≡ ended (refusal_of reply)
+refused_at opened ended (resolved.Resolved dir) isnt = absurd (isnt dir refl)
+refused_at opened ended resolved.InRecovery isnt = refl
+refused_at opened ended resolved.NotFound isnt = refl
+refused_at opened ended resolved.ListingFault isnt = refl
+refused_at opened ended (resolved.Failed cause) isnt = refl
+refused_at opened ended resolved.DiskRead isnt = refl
+refused_at opened ended (resolved.Rotten root got) isnt = refl
+refused_at opened ended (resolved.Broken number) isnt = refl
+refused_at opened ended resolved.NoMemory isnt = refl
+
 -- ---- a whole update
 
 pub whole : (path : NameAndVariant) (pin : Option Root) (reply : UpdateReply) (old new : View) (r s : Told) (F G : Type 0) → Goes (Asking path pin) (Ended reply) old new r s F G → Updates path pin reply old new r s
