@@ -1,5 +1,5 @@
 -- What is held from one step of an update to the next, and what the steps of a whole update come to.
-use Rattle.std.proofs.Common.{inl, ◌≡◌, ℕ, List, [], ◌∷◌, Option, Some, None, refl, sym, ap, subst, ◌∙◌}
+use Rattle.std.proofs.Common.{inl, ◌≡◌, ℕ, List, [], ◌∷◌, Option, Some, None, Result, Ok, Err, refl, sym, ap, subst, ◌∙◌}
 use Rattle.std.specs.Prelude.{◌↔◌}
 use Rattle.pkg_names.specs.NameAndVariant.{NameAndVariant}
 use Rattle.pkg_names.specs.declared.pinned.Pinned.{Pinned}
@@ -24,7 +24,7 @@ use Rattle.system_updater.specs.Serving.Point.{Asking, Reading, Rejecting, Stagi
 use Rattle.system_updater.specs.Serving.Prior.{NothingRead}
 use Rattle.system_updater.specs.Holding.{WithDir, WithStage, IsStaged, IsHeldAt, HoldsAt}
 use Rattle.system_updater.specs.Viewing.{Told, told, Updates}
-use Rattle.system_updater.specs.Steps.{Goes}
+use Rattle.system_updater.specs.Steps.{Goes, or_left, or_image_left}
 use Rattle.system_updater.proofs.Goes.{goes_leg, does_resolve}
 use Rattle.system_updater.proofs.Places.{open_closed, staged_left}
 
@@ -133,6 +133,13 @@ module _ (path : NameAndVariant) (pin : Option Root) (reply : ResolveReply) (old
       (λ leg to r. subst (λ (n : NameAndVariant). Resolves n task.image.url.pin (after_resolve (λ from. Copying dir plan task from later) (left dir)) leg to) same_path
       (subst (λ (o : Option Root). Resolves path o (after_resolve (λ from. Copying dir plan task from later) (left dir)) leg to) same_pin r))
       (λ base from now at with_dir. (held_by old, at, with_dir)) (λ base r at. staged_left old.lane dir Fills r base (held_by old) at)
+
+-- the directory of an image is closed, whatever came of its file
+pub image_closed : {A : Type 0} (next : Point) (dir from : Dir) (result : Result A UpdateReply) (v w : View) (r : Told) (F G : Type 0)
+    → ((after : Point) → HoldsAt (Closing from after) v → Goes (Closing from after) after v w r r F G) → HoldsAt (or_image_left next dir from result) v
+    → Goes (or_image_left next dir from result) (or_left (λ (done : A). next) dir result) v w r r F G
+image_closed next dir from (Ok x) v w r F G closes at = closes next at
+image_closed next dir from (Err reply) v w r F G closes at = closes (left dir reply) at
 
 -- where a refusal leads
 pub refused_at : (opened : Dir → Point) (ended : UpdateReply → Point) (reply : ResolveReply) → ((dir : Dir) → reply ≡ resolved.Resolved dir → ⊥) → after_resolve opened ended reply ≡ ended (refusal_of reply)
