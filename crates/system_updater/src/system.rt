@@ -2,6 +2,9 @@
 
 ghost use Rattle.std.specs.Prelude.{◌≡◌, []};
 ghost use Rattle.image_layout.specs.declared.Sys.{Sys as SysOf};
+ghost use Rattle.pkg_names.specs.NameAndVariant.{path_eq};
+ghost use Rattle.repo_source.specs.Repo.{listed_root};
+ghost use Rattle.system_lists.specs.Judging.{system_path};
 ghost use Rattle.store_model.specs.declared.replies.Dir.{Dir as DirOf};
 ghost use Rattle.store_model.specs.State.Phase.{Filling as Fills};
 ghost use Rattle.store_model.specs.Calls.{HoldsStage, HoldsSealed};
@@ -15,7 +18,7 @@ ghost use Rattle.system_updater.specs.Steps.{Goes, or_closed, or_left};
 use crate::plan::Plan;
 use crate::reply::UpdateReply;
 use image_layout::{ImageSum, Sys};
-use pkg_names::{Pinned, Root};
+use pkg_names::{PackagePath, Pinned, Root};
 use sha2::{Digest, Sha256};
 use store_model::{ActivateReply, Desk, SealReply, StageReply};
 use update_manifest::ImageRef;
@@ -53,14 +56,25 @@ pub(crate) fn sys_of(plan: &Plan) -> Sys
 fn system_root(packages: &[Pinned]) -> Root
     ensures { result ≡ system_root packages.now }
 {
-    for pinned in packages {
-        if pinned.path.name() == b"system_image".as_slice()
-            && pinned.path.variant() == b"0".as_slice()
-        {
-            return pinned.root;
-        }
+    match listed_system(packages) {
+        Some(root) => root,
+        None => Root([0; 32]),
     }
-    Root([0; 32])
+}
+
+fn listed_system(packages: &[Pinned]) -> Option<Root>
+    ensures { result ≡ listed_root packages.now system_path }
+{
+    packages
+        .iter()
+        .find(|pinned| is_system(&pinned.path))
+        .map(|pinned| pinned.root)
+}
+
+fn is_system(path: &PackagePath) -> bool
+    ensures { result ≡ path_eq path.now system_path }
+{
+    path.name() == b"system_image".as_slice() && path.variant() == b"0".as_slice()
 }
 
 fn sum_of(image: &ImageRef) -> ImageSum

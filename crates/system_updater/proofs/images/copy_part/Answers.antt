@@ -33,49 +33,49 @@ returns-in-Whole-clause-goes g c = λ dir plan task later repo same named.
     copy_whole dir plan task c.args.from later c.args.file.now (g.K.Desk.view c.args.desk.now) (g.K.Desk.view c.copy_part.new.self) repo (g.K.Desk.firm c.args.desk.now) (g.K.Desk.firm c.copy_part.new.self) named c.in-Whole.ensures.event.0 c.in-Whole.ensures.firm
 
 pub returns-in-More-clause-held : goal.returns-in-More-clause-held
-returns-in-More-clause-held g c = held_after_copy c.args.kind c.args.from.number c.args.file.now (copy.More c.in-More.have) (g.K.Desk.view c.args.desk.now) (g.K.Desk.view c.copy_part.new.self)  c.in-More.ensures.event
+returns-in-More-clause-held g c = held_after_copy c.args.kind c.args.from.number c.args.file.now (copy.More c.in-More.have) (g.K.Desk.view c.args.desk.now) (g.K.Desk.view c.copy_part.new.self) c.in-More.ensures.event
 
 pub returns-in-Whole-clause-held : goal.returns-in-Whole-clause-held
-returns-in-Whole-clause-held g c = held_after_copy c.args.kind c.args.from.number c.args.file.now (copy.Whole c.in-Whole.len) (g.K.Desk.view c.args.desk.now) (g.K.Desk.view c.copy_part.new.self)  c.in-Whole.ensures.event
+returns-in-Whole-clause-held g c = held_after_copy c.args.kind c.args.from.number c.args.file.now (copy.Whole c.in-Whole.len) (g.K.Desk.view c.args.desk.now) (g.K.Desk.view c.copy_part.new.self) c.in-Whole.ensures.event
 
 pub returns-in-BadDir-clause-goes : goal.returns-in-BadDir-clause-goes
 returns-in-BadDir-clause-goes g c =
     by_kind c.args.kind c.args.from c.args.file.now copy.BadDir (g.K.Desk.view c.args.desk.now) (g.K.Desk.view c.copy_part.new.self) (g.K.Desk.firm c.args.desk.now) (g.K.Desk.firm c.copy_part.new.self) c.in-BadDir.ensures.event c.in-BadDir.ensures.firm tt
 
 pub returns-in-BadDir-clause-held : goal.returns-in-BadDir-clause-held
-returns-in-BadDir-clause-held g c = held_after_copy c.args.kind c.args.from.number c.args.file.now copy.BadDir (g.K.Desk.view c.args.desk.now) (g.K.Desk.view c.copy_part.new.self)  c.in-BadDir.ensures.event
+returns-in-BadDir-clause-held g c = held_after_copy c.args.kind c.args.from.number c.args.file.now copy.BadDir (g.K.Desk.view c.args.desk.now) (g.K.Desk.view c.copy_part.new.self) c.in-BadDir.ensures.event
 
 pub returns-in-NoFile-clause-goes : goal.returns-in-NoFile-clause-goes
 returns-in-NoFile-clause-goes g c =
     by_kind c.args.kind c.args.from c.args.file.now copy.NoFile (g.K.Desk.view c.args.desk.now) (g.K.Desk.view c.copy_part.new.self) (g.K.Desk.firm c.args.desk.now) (g.K.Desk.firm c.copy_part.new.self) c.in-NoFile.ensures.event c.in-NoFile.ensures.firm tt
 
 pub returns-in-NoFile-clause-held : goal.returns-in-NoFile-clause-held
-returns-in-NoFile-clause-held g c = held_after_copy c.args.kind c.args.from.number c.args.file.now copy.NoFile (g.K.Desk.view c.args.desk.now) (g.K.Desk.view c.copy_part.new.self)  c.in-NoFile.ensures.event
+returns-in-NoFile-clause-held g c = held_after_copy c.args.kind c.args.from.number c.args.file.now copy.NoFile (g.K.Desk.view c.args.desk.now) (g.K.Desk.view c.copy_part.new.self) c.in-NoFile.ensures.event
 
 pub returns-in-TooLarge-clause-goes : goal.returns-in-TooLarge-clause-goes
 returns-in-TooLarge-clause-goes g c =
     by_kind c.args.kind c.args.from c.args.file.now (copy.TooLarge c.in-TooLarge.len c.in-TooLarge.room) (g.K.Desk.view c.args.desk.now) (g.K.Desk.view c.copy_part.new.self) (g.K.Desk.firm c.args.desk.now) (g.K.Desk.firm c.copy_part.new.self) c.in-TooLarge.ensures.event c.in-TooLarge.ensures.firm tt
 
 pub returns-in-TooLarge-clause-held : goal.returns-in-TooLarge-clause-held
-returns-in-TooLarge-clause-held g c = held_after_copy c.args.kind c.args.from.number c.args.file.now (copy.TooLarge c.in-TooLarge.len c.in-TooLarge.room) (g.K.Desk.view c.args.desk.now) (g.K.Desk.view c.copy_part.new.self)  c.in-TooLarge.ensures.event
+returns-in-TooLarge-clause-held g c = held_after_copy c.args.kind c.args.from.number c.args.file.now (copy.TooLarge c.in-TooLarge.len c.in-TooLarge.room) (g.K.Desk.view c.args.desk.now) (g.K.Desk.view c.copy_part.new.self) c.in-TooLarge.ensures.event
 
 pub returns-in-DiskRead-clause-goes : goal.returns-in-DiskRead-clause-goes
 returns-in-DiskRead-clause-goes g c =
     by_kind c.args.kind c.args.from c.args.file.now copy.DiskRead (g.K.Desk.view c.args.desk.now) (g.K.Desk.view c.copy_part.new.self) (g.K.Desk.firm c.args.desk.now) (g.K.Desk.firm c.copy_part.new.self) c.in-DiskRead.ensures.event c.in-DiskRead.ensures.firm tt
 
 pub returns-in-DiskRead-clause-held : goal.returns-in-DiskRead-clause-held
-returns-in-DiskRead-clause-held g c = held_after_copy c.args.kind c.args.from.number c.args.file.now copy.DiskRead (g.K.Desk.view c.args.desk.now) (g.K.Desk.view c.copy_part.new.self)  c.in-DiskRead.ensures.event
+returns-in-DiskRead-clause-held g c = held_after_copy c.args.kind c.args.from.number c.args.file.now copy.DiskRead (g.K.Desk.view c.args.desk.now) (g.K.Desk.view c.copy_part.new.self) c.in-DiskRead.ensures.event
 
 pub returns-in-Broken-clause-goes : goal.returns-in-Broken-clause-goes
 returns-in-Broken-clause-goes g c =
     by_kind c.args.kind c.args.from c.args.file.now (copy.Broken c.in-Broken.number) (g.K.Desk.view c.args.desk.now) (g.K.Desk.view c.copy_part.new.self) (g.K.Desk.firm c.args.desk.now) (g.K.Desk.firm c.copy_part.new.self) c.in-Broken.ensures.event c.in-Broken.ensures.firm tt
 
 pub returns-in-Broken-clause-held : goal.returns-in-Broken-clause-held
-returns-in-Broken-clause-held g c = held_after_copy c.args.kind c.args.from.number c.args.file.now (copy.Broken c.in-Broken.number) (g.K.Desk.view c.args.desk.now) (g.K.Desk.view c.copy_part.new.self)  c.in-Broken.ensures.event
+returns-in-Broken-clause-held g c = held_after_copy c.args.kind c.args.from.number c.args.file.now (copy.Broken c.in-Broken.number) (g.K.Desk.view c.args.desk.now) (g.K.Desk.view c.copy_part.new.self) c.in-Broken.ensures.event
 
 pub returns-in-NoMemory-clause-goes : goal.returns-in-NoMemory-clause-goes
 returns-in-NoMemory-clause-goes g c =
     by_kind c.args.kind c.args.from c.args.file.now copy.NoMemory (g.K.Desk.view c.args.desk.now) (g.K.Desk.view c.copy_part.new.self) (g.K.Desk.firm c.args.desk.now) (g.K.Desk.firm c.copy_part.new.self) c.in-NoMemory.ensures.event c.in-NoMemory.ensures.firm tt
 
 pub returns-in-NoMemory-clause-held : goal.returns-in-NoMemory-clause-held
-returns-in-NoMemory-clause-held g c = held_after_copy c.args.kind c.args.from.number c.args.file.now copy.NoMemory (g.K.Desk.view c.args.desk.now) (g.K.Desk.view c.copy_part.new.self)  c.in-NoMemory.ensures.event
+returns-in-NoMemory-clause-held g c = held_after_copy c.args.kind c.args.from.number c.args.file.now copy.NoMemory (g.K.Desk.view c.args.desk.now) (g.K.Desk.view c.copy_part.new.self) c.in-NoMemory.ensures.event
