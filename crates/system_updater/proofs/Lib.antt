@@ -4,3 +4,5 @@ pub mod Closes
 pub mod Desks
 pub mod Wholes
 pub mod Judging
+pub mod Marks
+pub mod Staged

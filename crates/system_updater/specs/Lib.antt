@@ -3,3 +3,4 @@ pub mod Serving
 pub mod Holding
 pub mod Viewing
 pub mod Steps
+pub mod Laws

@@ -6,6 +6,7 @@
 
 mod closing;
 mod images;
+mod laws;
 mod manifests;
 mod packages;
 mod plan;
@@ -13,5 +14,6 @@ mod reply;
 mod system;
 mod updating;
 
+pub use laws::staged_updates_are_in_order;
 pub use reply::UpdateReply;
 pub use updating::update;
