@@ -1,3 +1,4 @@
 pub mod ContentsMap
 pub mod Named
 pub mod Stocks
+pub mod KeptBytes
