@@ -6,3 +6,4 @@ pub mod Wholes
 pub mod Judging
 pub mod Marks
 pub mod Staged
+pub mod Causes

@@ -12,7 +12,8 @@ use store_model::{Desk, Dir};
 // Closes a directory that is open.
 pub(crate) fn close<K: Desk>(desk: &mut K, dir: Dir)
     ensures { (next : Point) (repo : Told) → HoldsAt (Closing dir next) (K.view desk.old)
-        → Goes (Closing dir next) next (K.view desk.old) (K.view desk.new) repo repo (K.firm desk.old) (K.firm desk.new) }
+        → Goes (Closing dir next) next (K.view desk.old) (K.view desk.new) repo repo
+        (K.firm desk.old) (K.firm desk.new) }
 {
     let _ = desk.close(dir);
 }

@@ -147,7 +147,8 @@ fn copy_part<K: Desk>(desk: &mut K, kind: ImageKind, from: Dir, file: &FilePath)
     requires { HoldsStage (K.view desk.old) Fills }
     ensures goes { (dir : DirOf) (plan : PlanOf) (task : Task) (later : List Task) (repo : Told)
         → task.kind ≡ kind → task.image.url.file ≡ Some file.now
-        → Goes (Copying dir plan task from later) (after_part (Copying dir plan task from later) (Filling dir plan later) dir from result)
+        → Goes (Copying dir plan task from later)
+        (after_part (Copying dir plan task from later) (Filling dir plan later) dir from result)
         (K.view desk.old) (K.view desk.new) repo repo (K.firm desk.old) (K.firm desk.new) }
     ensures held { held_by (K.view desk.new) ≡ held_by (K.view desk.old) }
 {

@@ -152,7 +152,8 @@ fn refusal_with(file: ManifestFile, why: ManifestFault) -> Refusal
 
 // A missing epoch is 0.
 fn judge_epoch(alloc: Global, found: Option<Bytes>) -> Result<u64, Refusal>
-    ensures { (dir : DirOf) → Judges (λ epoch. Reading dir (EpochRead epoch)) dir result (judged dir NothingRead found) }
+    ensures { (dir : DirOf)
+        → Judges (λ epoch. Reading dir (EpochRead epoch)) dir result (judged dir NothingRead found) }
 {
     let Some(bytes) = found else {
         return Ok(0);

@@ -110,7 +110,8 @@ fn install<W: Wait, K: Desk, R: Repo>(
 ) -> UpdateReply
     requires few { length plan.packages ≤ ENTRY_LIMIT }
     requires at { IsRetaining plan (K.view desk.old) }
-    ensures { (dir : DirOf) → HoldsAt (Retaining dir plan) (K.view desk.old) → Goes (Retaining dir plan) (left dir result)
+    ensures { (dir : DirOf) → HoldsAt (Retaining dir plan) (K.view desk.old)
+        → Goes (Retaining dir plan) (left dir result)
         (K.view desk.old) (K.view desk.new)
         (told (R.listing repo.old) (R.files repo.old) (R.faults repo.old) (R.fetches repo.old))
         (told (R.listing repo.new) (R.files repo.new) (R.faults repo.new) (R.fetches repo.new))
@@ -132,7 +133,8 @@ fn fill_slot<W: Wait, K: Desk, R: Repo>(
 ) -> Result<(), UpdateReply>
     requires few { length plan.packages ≤ ENTRY_LIMIT }
     requires at { IsRetaining plan (K.view desk.old) }
-    ensures { (dir : DirOf) → HoldsAt (Retaining dir plan) (K.view desk.old) → Goes (Retaining dir plan) (or_left (λ done. Activating dir (sys_of plan)) dir result)
+    ensures { (dir : DirOf) → HoldsAt (Retaining dir plan) (K.view desk.old)
+        → Goes (Retaining dir plan) (or_left (λ done. Activating dir (sys_of plan)) dir result)
         (K.view desk.old) (K.view desk.new)
         (told (R.listing repo.old) (R.files repo.old) (R.faults repo.old) (R.fetches repo.old))
         (told (R.listing repo.new) (R.files repo.new) (R.faults repo.new) (R.fetches repo.new))
