@@ -1,0 +1,5 @@
+pub mod Activation
+pub mod Counting
+pub mod Ledgers
+pub mod Looks
+pub mod Steps

@@ -1,0 +1,52 @@
+//! Open packages.
+
+ghost use Rattle.std.specs.Prelude.{◌≡◌, None, Some, IfOk, OnErr};
+ghost use Rattle.open_tracker.specs.Directories.{root_of};
+ghost use Rattle.store_model.specs.declared.events.Act.TheVariants as acts;
+ghost use Rattle.store_model.specs.Acts.OpenPath.{root_to_open};
+ghost use Rattle.plain_ledger.specs.Ledgers.{Notes, NotesAt, Stays};
+
+use crate::ledger::{Ledger, event_by, make_room};
+use pkg_names::{PackagePath, Root};
+use std::alloc::AllocError;
+use store_model::Act;
+
+impl Ledger {
+    /// A package that is here is opened. The event's number is the directory.
+    pub fn open_path(&mut self, lane: u32, path: PackagePath, root: Root) -> Result<u64, AllocError>
+        requires { root_to_open self.old.state path ≡ Some root }
+        ensures ok { IfOk result (NotesAt self.old lane (acts.OpenPath path (Some root)) self.new) }
+        ensures err { OnErr result (Stays self.old self.new) }
+    {
+        make_room(&mut self.history, &self.state, 2)?;
+        let number = self.history.next_number();
+        self.state.open_path(number, lane, root)?;
+        let reply = Some(root);
+        self.history
+            .note(event_by(lane, Act::OpenPath { path, reply }));
+        Ok(number)
+    }
+
+    /// Closes a directory of the lane, and tells whether it was open. Memory is wanted only where it wasn't.
+    pub fn close(&mut self, lane: u32, dir: u64) -> Result<bool, AllocError>
+        ensures ok { IfOk result (λ closed. Notes self.old lane (acts.Close dir closed) self.new) }
+        ensures err { OnErr result (Stays self.old self.new) }
+        ensures open { OnErr result (root_of self.old.state.dirs dir lane ≡ None) }
+    {
+        match self.state.root_of_dir(dir, lane) {
+            Some(_) => {
+                let closed = self.state.close_dir(dir, lane);
+                self.history
+                    .note(event_by(lane, Act::Close { dir, closed }));
+                Ok(closed)
+            }
+            None => {
+                make_room(&mut self.history, &self.state, 1)?;
+                let closed = self.state.close_dir(dir, lane);
+                self.history
+                    .note(event_by(lane, Act::Close { dir, closed }));
+                Ok(closed)
+            }
+        }
+    }
+}
