@@ -21,8 +21,8 @@ use Rattle.store_model.specs.Acts.Activate.{IsDueActivate, activated_at, activat
 use Rattle.store_model.proofs.Frames.{keeps_next}
 use Rattle.plain_state.specs.Holdings.{ends_due, stage_ends}
 use Rattle.plain_state.specs.Learning.{IsSettled}
-use Rattle.plain_ledger.specs.Ledgers.{IsLedger}
-use Rattle.plain_ledger.proofs.Ledgers.{Goes}
+use Rattle.plain_ledger.specs.Ledgers.{LedgerOf, IsLedger, Noted, Pushes}
+use Rattle.plain_ledger.proofs.Ledgers.{Came, Goes, came, here, seen_as}
 
 -- ---- as many ends are due as before
 
@@ -41,19 +41,21 @@ same_ends : (s : State) (lane : ℕ) (seen : List LookedAt) (reply : ActivateEnd
 same_ends s lane seen (activations.Active slot) = ends_at s lane seen slot s.stage refl
 same_ends s lane seen reply = refl
 
-pub activated : (o : Origin) (h : List Event) (old spare spare' : ℕ) (s s' : State) (lane : ℕ) (seen : List LookedAt) (reply : ActivateEnd) → IsLedger o h old s → IsDueActivate s lane seen reply → IsSeen seen s.stock
-    → IsSettled seen (next_activate s lane seen reply) s' → ends_due s + 1 ≤ spare → spare' + 1 ≡ spare → Goes h spare' s s' lane (acts.Activate reply seen)
-activated o h old spare spare' s s' lane seen reply l due is_seen settled room left =
+pub activated : {o : Origin} {h : List Event} {spare : ℕ} {s s' : State} {n1 n2 : Noted} {old : LedgerOf} {lane : ℕ} {reply : ActivateEnd} {seen : List LookedAt}
+    → seen_as o h s ≡ old → IsLedger o h spare s → n1.events ≡ h → ends_due s + 1 ≤ n1.spare → Pushes lane (acts.Activate reply seen) n1 n2
+    → IsDueActivate s lane seen reply → IsSeen seen s.stock → IsSettled seen (next_activate s lane seen reply) s'
+    → Came o n2 s' old lane (acts.Activate reply seen)
+activated {o} {h} {spare} {s} {s'} {n1} {n2} {old} {lane} {reply} {seen} view l same room pushed due is_seen settled =
     let k = keeps_next s (length h + 1) lane (acts.Activate reply seen) in
-    record {
+    came view l same pushed (record {
       later = refl;
       due = due;
       seen = subst (IsSeen seen) (sym (k.stock refl)) is_seen;
       settled = settled;
       booted = k.booted refl;
       broken = k.broken refl;
-      enough = omega (arith, left, room, same_ends s lane seen reply);
-    }
+      enough = omega (arith, pushed.spare, room, same_ends s lane seen reply);
+    })
 
 -- ---- A or B runs
 
@@ -63,9 +65,12 @@ success_runs abr slots.B e = refl
 success_runs abr slots.R e = absurd (true≢false (sym e))
 
 -- where a lane has sealed a system, recovery doesn't run
-pub runs : (o : Origin) (h : List Event) (spare : ℕ) (s : State) (lane : ℕ) (sys : Sys) → IsLedger o h spare s → IsStageOf s lane (Sealed sys) → is_recovery s.running ≡ false
-runs o h spare s lane sys l is =
+pub runs : {o : Origin} {h : List Event} {spare : ℕ} {s : State} {old : LedgerOf} {lane : ℕ} {sys : Sys}
+    → seen_as o h s ≡ old → IsLedger o h spare s → IsStageOf old.state lane (Sealed sys) → is_recovery s.running ≡ false
+runs {o} {h} {spare} {s} {old} {lane} {sys} view l was =
+    let is : IsStageOf s lane (Sealed sys) = here (λ (t : State). IsStageOf t lane (Sealed sys)) view was in
     let a : State = after o h in
     let there : a.stage ≡ Some (record { lane = lane; phase = Sealed sys }) = sym (ap (λ (t : State). t.stage) l.mirrors.rest) ∙ is in
-    let under_way : IsInPhase a (Sealed sys) = subst (λ (st : Option Stage). IfSome st (λ (x : Stage). IsInPhase a x.phase)) there (stage_after o h l.legal) in
+    let under_way : IsInPhase a (Sealed sys) =
+    subst (λ (st : Option Stage). IfSome st (λ (x : Stage). IsInPhase a x.phase)) there (stage_after o h l.legal) in
     ap (λ (t : State). is_recovery t.running) l.mirrors.rest ∙ success_runs a.abr a.running under_way.running

@@ -3,3 +3,4 @@ pub mod Counting
 pub mod Ledgers
 pub mod Looks
 pub mod Steps
+pub mod Turns

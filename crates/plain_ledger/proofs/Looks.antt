@@ -1,55 +1,43 @@
--- What acts leave that look at blobs, and acts with several answers.
-use Rattle.std.proofs.Common.{◌≡◌, ◌≢◌, ◌≤◌, ◌+◌, ℕ, not, ◌&&◌, Bool, true, false, cond, List, [], ◌∷◌, ◌++◌, length, All, Option, Some, None, is_some, inl, inr, refl, sym, ap, subst, arith, ◌∙◌}
-use Rattle.std.specs.Prelude.{IfSome, IsSome, IsSomeAnd, nat_le, nat_lt}
-use Rattle.std.proofs.lemmas.List.{length_push, length-map}
+-- Calls after which the books know more, or less.
+use Rattle.std.proofs.Common.{◌≡◌, ◌≤◌, ◌+◌, ℕ, not, ◌&&◌, Bool, true, false, List, [], ◌∷◌, ◌++◌, length, Option, Some, None, is_some, inl, inr, refl, sym, ap, subst, arith, ◌∙◌}
+use Rattle.std.specs.Prelude.{IfSome, IsSome, IsSomeAnd, ◌==◌, find, nat_le}
+use Rattle.std.specs.Option.{option_map}
+use Rattle.std.proofs.lemmas.List.{length_push}
 use Rattle.std.proofs.lemmas.Bool.{cases_Bool, true≢false, and_parts, leb-true}
 use Rattle.pkg_names.specs.NameAndVariant.{NameAndVariant}
 use Rattle.pkg_names.specs.declared.root.Root.{Root}
 use Rattle.pkg_names.specs.Root.{root_eq}
 use Rattle.pkg_names.proofs.Roots.{root_eq-true, root_eq-refl}
 use Rattle.pkg_merkle.specs.Merkle.{merkle_root}
-use Rattle.fetch_queue.specs.declared.FetchEnd.{FetchEnd}
-use Rattle.fetch_queue.specs.declared.FetchEnd.TheVariants as ends
 use Rattle.fetch_queue.specs.declared.queue.ClaimEntry.{ClaimEntry}
+use Rattle.open_tracker.specs.declared.dirs.DirEntry.{DirEntry}
+use Rattle.open_tracker.specs.Directories.{is_of, root_of}
 use Rattle.package_book.specs.declared.book.TheConstants.{META_LIMIT}
 use Rattle.package_book.specs.Books.{book_at}
 use Rattle.package_indexes.specs.declared.Choice.{Choice}
 use Rattle.store_model.specs.declared.ends.BeginEnd.TheVariants as begins
-use Rattle.abr_record.specs.declared.Slot.{Slot}
-use Rattle.abr_record.specs.declared.Slot.TheVariants as slots
-use Rattle.store_model.specs.declared.ends.StageEnd.{StageEnd}
-use Rattle.store_model.specs.declared.ends.StageEnd.TheVariants as stages
-use Rattle.store_model.specs.Acts.Stage.{held_answer, stage_answer}
-use Rattle.store_model.specs.declared.ends.Miss.{Miss}
-use Rattle.store_model.specs.declared.ends.Miss.TheVariants as misses
+use Rattle.store_model.specs.declared.ends.Cause.{Cause}
+use Rattle.store_model.specs.declared.ends.WantEnd.{WantEnd}
+use Rattle.store_model.specs.declared.ends.WantEnd.TheVariants as wants
 use Rattle.store_model.specs.declared.events.Act.TheVariants as acts
 use Rattle.store_model.specs.declared.events.Event.{Event}
 use Rattle.store_model.specs.declared.events.LookedAt.{LookedAt}
-use Rattle.store_model.specs.State.{State, Arrival, Stage, Stored, arrival_of, claim_of, is_committed, is_pending, is_recovery, other_slot, running_epoch, has_root, is_stored, protected_in, stored_len}
+use Rattle.store_model.specs.State.{State, Arrival, Stored, arrival_of, claim_of, has_root, is_stored, protected_in, stored_len, without_ticket}
 use Rattle.store_model.specs.Lanes.{AreClaims}
-use Rattle.store_model.specs.Packages.{rest as unnamed}
 use Rattle.store_model.specs.Settling.{IsSeen}
 use Rattle.store_model.specs.History.{Origin}
 use Rattle.store_model.specs.Acts.Begin.{begin_answer, has_to_read, next_begin}
-use Rattle.store_model.specs.Acts.Put.{IsDuePut}
 use Rattle.store_model.specs.Acts.Land.{IsDueLand, next_land}
-use Rattle.store_model.specs.Acts.Missed.{IsDueMissed, next_missed}
-use Rattle.store_model.specs.Acts.Marking.{ended, unclaimed}
-use Rattle.store_model.specs.declared.ends.WantEnd.{WantEnd}
-use Rattle.store_model.specs.declared.ends.WantEnd.TheVariants as wants
-use Rattle.store_model.specs.Acts.Want.{IsAnswered, IsDueWant, next_want}
-use Rattle.store_model.specs.Acts.OpenPath.{next_open_path}
-use Rattle.store_model.specs.Acts.Collect.{collect_answer, next_collect}
-use Rattle.store_model.proofs.LanesLists.{found_all, found_passes}
-use Rattle.plain_state.specs.Holdings.{ends_due}
-use Rattle.plain_state.specs.Learning.{IsReady, IsSettled, seen_of}
-use Rattle.plain_state.proofs.SettledStill.{ends as ends_settled, unclaims, collects}
-use Rattle.plain_ledger.specs.Ledgers.{IsLedger}
-use Rattle.plain_ledger.proofs.Counting.{Found, found, shorter}
-use Rattle.plain_ledger.proofs.Ledgers.{Goes, once, ready}
-use Rattle.plain_ledger.proofs.Steps.{fewer, held_claim}
+use Rattle.store_model.specs.Acts.Want.{IsAnswered, IsDueWant, next_want, with_directory}
+use Rattle.store_model.specs.Acts.GaveUp.{IsDueGaveUp, next_gave_up}
+use Rattle.store_model.specs.Acts.Close.{IsDueClose, next_close}
+use Rattle.plain_state.specs.Holdings.{ends_due, stage_ends}
+use Rattle.plain_state.specs.Learning.{IsSettled, seen_of}
+use Rattle.plain_ledger.specs.Ledgers.{LedgerOf, IsLedger, Noted, Pushes}
+use Rattle.plain_ledger.proofs.Counting.{found, found_with, no_longer, shorter}
+use Rattle.plain_ledger.proofs.Ledgers.{Came, Goes, came, here, once, seen_as}
 
--- ---- a package arrives
+-- ---- tickets
 
 seen_begun : (s : State) (root : Root) (meta : Option (List ℕ)) → is_some meta ≡ has_to_read s root
     → IfSome meta (λ bytes. (merkle_root bytes ≡ root) × (stored_len s.stock root ≡ Some (length bytes))) → IsSeen (seen_of root meta) s.stock
@@ -58,20 +46,109 @@ seen_begun s root (Some b) read bytes =
     let test = rw bytes.1 at (sym read) in
     (bytes.0, bytes.1, leb-true (length b) META_LIMIT (and_parts (nat_le (length b) META_LIMIT) (not (is_some (book_at s.books root))) test).0, tt)
 
-pub begun : (o : Origin) (h : List Event) (old spare spare' : ℕ) (s s' : State) (lane number : ℕ) (path : NameAndVariant) (choice : Choice) (root : Root) (meta : Option (List ℕ)) (seen : List LookedAt)
-    → IsLedger o h old s → number ≡ length h + 1 → begin_answer s path choice ≡ begins.Ticket root → is_some meta ≡ has_to_read s root
-    → IfSome meta (λ bytes. (merkle_root bytes ≡ root) × (stored_len s.stock root ≡ Some (length bytes))) → seen ≡ seen_of root meta
-    → IsSettled (seen_of root meta) (next_begin s number lane path (begins.Ticket root)) s' → ends_due s + 2 ≤ spare → spare' + 1 ≡ spare
-    → Goes h spare' s s' lane (acts.Begin path choice (begins.Ticket root) seen)
-begun o h old spare spare' s s' lane number path choice root meta seen l is answer read bytes is_seen settled room left =
-    subst (λ (x : List LookedAt). Goes h spare' s s' lane (acts.Begin path choice (begins.Ticket root) x)) (sym is_seen) (record {
+-- the meta blob that a call was given is what it has to look at
+pub record IsMeta (s : State) (root : Root) (meta : Option (List ℕ)) (seen : List LookedAt) : Type 0 where
+  pub read : is_some meta ≡ has_to_read s root
+  pub bytes : IfSome meta (λ bytes. (merkle_root bytes ≡ root) × (stored_len s.stock root ≡ Some (length bytes)))
+  pub looked : seen ≡ seen_of root meta
+
+pub begun : {o : Origin} {h : List Event} {spare : ℕ} {s s' : State} {n1 n2 : Noted} {old : LedgerOf} {lane number : ℕ} {path : NameAndVariant} {choice : Choice} {root : Root} {meta : Option (List ℕ)} {seen : List LookedAt}
+    → seen_as o h s ≡ old → IsLedger o h spare s → n1.events ≡ h → ends_due s + 2 ≤ n1.spare
+    → Pushes lane (acts.Begin path choice (begins.Ticket root) seen) n1 n2
+    → begin_answer old.state path choice ≡ begins.Ticket root → IsMeta old.state root meta seen → number ≡ length h + 1
+    → IsSettled (seen_of root meta) (next_begin s number lane path (begins.Ticket root)) s'
+    → Came o n2 s' old lane (acts.Begin path choice (begins.Ticket root) seen)
+begun {o} {h} {spare} {s} {s'} {n1} {n2} {old} {lane} {number} {path} {choice} {root} {meta} {seen} view l same room pushed answer was_meta own settled =
+    let given : IsMeta s root meta seen = here (λ (t : State). IsMeta t root meta seen) view was_meta in
+    let next_settled : IsSettled (seen_of root meta) (next_begin s (length h + 1) lane path (begins.Ticket root)) s' =
+    subst (λ (n : ℕ). IsSettled (seen_of root meta) (next_begin s n lane path (begins.Ticket root)) s') own settled in
+    came view l same pushed (record {
       later = refl;
-      due = sym answer;
-      seen = seen_begun s root meta read bytes;
-      settled = subst (λ (n : ℕ). IsSettled (seen_of root meta) (next_begin s n lane path (begins.Ticket root)) s') is settled;
+      due = sym (here (λ (t : State). begin_answer t path choice ≡ begins.Ticket root) view answer);
+      seen = subst (λ (x : List LookedAt). IsSeen x s.stock) (sym given.looked) (seen_begun s root meta given.read given.bytes);
+      settled = subst (λ (x : List LookedAt). IsSettled x (next_begin s (length h + 1) lane path (begins.Ticket root)) s') (sym given.looked) next_settled;
       booted = refl;
       broken = refl;
-      enough = omega (arith, left, room, length_push s.arriving (record { ticket = length h + 1; lane = lane; path = path; root = root; mark = None }));
+      enough = omega (arith, pushed.spare, room, length_push s.arriving (record { ticket = length h + 1; lane = lane; path = path; root = root; mark = None }));
+    })
+
+-- a ticket that goes was there
+gone : {o : Origin} {h : List Event} {spare : ℕ} {s : State} (left ticket : ℕ) (P : Arrival → Type 0) → IsLedger o h spare s
+    → IsSomeAnd (arrival_of s.arriving ticket) P → left + 1 ≡ spare → ends_due (next_gave_up s ticket) ≤ left
+gone {o} {h} {spare} {s} left ticket P l due one =
+    let there = found (arrival_of s.arriving ticket) P due in
+    omega (arith, one, l.enough, shorter (λ (a : Arrival). a.ticket == ticket) there.it s.arriving there.is)
+
+-- a place that is held for a ticket's end
+pub held_ticket : {o : Origin} {h : List Event} {spare : ℕ} {s : State} {old : LedgerOf} (ticket : ℕ) (P : Arrival → Type 0)
+    → seen_as o h s ≡ old → IsLedger o h spare s → IsSomeAnd (arrival_of old.state.arriving ticket) P → 1 ≤ spare
+held_ticket {o} {h} {spare} {s} {old} ticket P view l due =
+    let there = found (arrival_of s.arriving ticket) P (here (λ (t : State). IsSomeAnd (arrival_of t.arriving ticket) P) view due) in
+    omega (arith, l.enough, shorter (λ (a : Arrival). a.ticket == ticket) there.it s.arriving there.is)
+
+pub failed : {o : Origin} {h : List Event} {s s' : State} {n1 n2 : Noted} {old : LedgerOf} {lane ticket : ℕ} {cause : Cause}
+    → seen_as o h s ≡ old → IsLedger o h n1.spare s → n1.events ≡ h → Pushes lane (acts.Want ticket (wants.Failed cause)) n1 n2
+    → IsDueWant old.state lane ticket (wants.Failed cause) → IsSettled [] (next_gave_up s ticket) s'
+    → Came o n2 s' old lane (acts.Want ticket (wants.Failed cause))
+failed {o} {h} {s} {s'} {n1} {n2} {old} {lane} {ticket} {cause} view l same pushed was_due settled =
+    let due : IsDueWant s lane ticket (wants.Failed cause) = here (λ (t : State). IsDueWant t lane ticket (wants.Failed cause)) view was_due in
+    came view l same pushed (record {
+      later = refl;
+      due = due;
+      seen = tt;
+      settled = settled;
+      booted = refl;
+      broken = refl;
+      enough = gone n2.spare ticket _ l due pushed.spare;
+    })
+
+pub given_up : {o : Origin} {h : List Event} {s s' : State} {n1 n2 : Noted} {old : LedgerOf} {lane ticket : ℕ}
+    → seen_as o h s ≡ old → IsLedger o h n1.spare s → n1.events ≡ h → Pushes lane (acts.GaveUp ticket) n1 n2
+    → IsDueGaveUp old.state lane ticket → IsSettled [] (next_gave_up s ticket) s' → Came o n2 s' old lane (acts.GaveUp ticket)
+given_up {o} {h} {s} {s'} {n1} {n2} {old} {lane} {ticket} view l same pushed was_due settled =
+    let due : IsDueGaveUp s lane ticket = here (λ (t : State). IsDueGaveUp t lane ticket) view was_due in
+    came view l same pushed (record {
+      later = refl;
+      due = due;
+      seen = tt;
+      settled = settled;
+      booted = refl;
+      broken = refl;
+      enough = gone n2.spare ticket _ l due pushed.spare;
+    })
+
+-- what arrives under a ticket that is answered
+arrives_so : (a : Option Arrival) (P : Arrival → Type 0) → IsSomeAnd a P → IsSome a
+arrives_so None P none = absurd none
+arrives_so (Some arrival) P answered = refl
+
+pub arrives : {o : Origin} {h : List Event} {s : State} {old : LedgerOf} (lane ticket : ℕ) (reply : WantEnd)
+    → seen_as o h s ≡ old → IsDueWant old.state lane ticket reply → IsSome (arrival_of s.arriving ticket)
+arrives {o} {h} {s} {old} lane ticket reply view due =
+    arrives_so (arrival_of s.arriving ticket) _ (here (λ (t : State). IsDueWant t lane ticket reply) view due)
+
+-- the ticket goes, and its directory comes
+opened_ends : (s : State) (left lane ticket number : ℕ) (a : Option Arrival) → arrival_of s.arriving ticket ≡ a
+    → IsSomeAnd a (IsAnswered s lane wants.Opened) → ends_due s ≤ left
+    → length s.claims + length (without_ticket s.arriving ticket) + length (with_directory s.dirs number lane a) + stage_ends s.stage ≤ left
+opened_ends s left lane ticket number None is none room = absurd none
+opened_ends s left lane ticket number (Some a) is answered room =
+    omega (arith, room, length_push s.dirs (record { number = number; lane = lane; root = a.root }), shorter (λ (x : Arrival). x.ticket == ticket) a s.arriving is)
+
+pub opened : {o : Origin} {h : List Event} {spare : ℕ} {s s' : State} {n1 n2 : Noted} {old : LedgerOf} {lane ticket number : ℕ}
+    → seen_as o h s ≡ old → IsLedger o h spare s → n1.events ≡ h → ends_due s + 1 ≤ n1.spare
+    → Pushes lane (acts.Want ticket wants.Opened) n1 n2 → IsDueWant old.state lane ticket wants.Opened → number ≡ length h + 1
+    → IsSettled [] (next_want s number lane ticket wants.Opened) s' → Came o n2 s' old lane (acts.Want ticket wants.Opened)
+opened {o} {h} {spare} {s} {s'} {n1} {n2} {old} {lane} {ticket} {number} view l same room pushed was_due own settled =
+    let due : IsDueWant s lane ticket wants.Opened = here (λ (t : State). IsDueWant t lane ticket wants.Opened) view was_due in
+    came view l same pushed (record {
+      later = refl;
+      due = due;
+      seen = tt;
+      settled = subst (λ (n : ℕ). IsSettled [] (next_want s n lane ticket wants.Opened) s') own settled;
+      booted = refl;
+      broken = refl;
+      enough = opened_ends s n2.spare lane ticket (length h + 1) (arrival_of s.arriving ticket) refl due (omega (arith, pushed.spare, room));
     })
 
 -- ---- a blob is stored
@@ -94,130 +171,61 @@ seen_landed s root len (Some b) missing read bytes =
 claimed_missing : (s : State) (root : Root) (P : ClaimEntry → Type 0) → IsSomeAnd (claim_of s.claims root) P → AreClaims s.claims s.stock → is_stored s.stock root ≡ false
 claimed_missing s root P due once =
     let there = found (claim_of s.claims root) P due in
-    let own = root_eq-true there.it.root root (found_passes (λ (c : ClaimEntry). root_eq c.root root) s.claims there.it there.is) in
-    subst (λ (r : Root). is_stored s.stock r ≡ false) own
-    (found_all (λ (c : ClaimEntry). root_eq c.root root) (λ (c : ClaimEntry). is_stored s.stock c.root ≡ false) s.claims there.it there.is once.missing)
+    let own = found_with (λ (c : ClaimEntry). root_eq c.root root) (λ (c : ClaimEntry). is_stored s.stock c.root ≡ false) s.claims there.it there.is once.missing in
+    subst (λ (r : Root). is_stored s.stock r ≡ false) (root_eq-true there.it.root root own.0) own.1
 
 -- a claimed blob isn't stored
-pub not_there : (o : Origin) (h : List Event) (spare : ℕ) (s : State) (lane : ℕ) (root : Root) (len : ℕ) (end : Option FetchEnd) → IsLedger o h spare s → IsDueLand s lane root len end → is_stored s.stock root ≡ false
-not_there o h spare s lane root len end l due = claimed_missing s root _ due.0 (once o h spare s l).claims
+pub not_there : {o : Origin} {h : List Event} {spare : ℕ} {s : State} {old : LedgerOf} (lane : ℕ) (root : Root) (len : ℕ)
+    → seen_as o h s ≡ old → IsLedger o h spare s → IsDueLand old.state lane root len None → is_stored s.stock root ≡ false
+not_there {o} {h} {spare} {s} {old} lane root len view l due =
+    claimed_missing s root _ (here (λ (t : State). IsDueLand t lane root len None) view due).0 (once l).claims
 
-pub landed : (o : Origin) (h : List Event) (spare spare' : ℕ) (s s' : State) (lane : ℕ) (root : Root) (len : ℕ) (meta : Option (List ℕ)) (seen : List LookedAt)
-    → IsLedger o h spare s → IsDueLand s lane root len None → is_some meta ≡ (has_root (protected_in s) root && nat_le len META_LIMIT)
-    → IfSome meta (λ bytes. (merkle_root bytes ≡ root) × (length bytes ≡ len)) → seen ≡ seen_of root meta
-    → IsSettled (seen_of root meta) (next_land s root len None) s' → spare' + 1 ≡ spare → Goes h spare' s s' lane (acts.Land root len None seen)
-landed o h spare spare' s s' lane root len meta seen l due read bytes is_seen settled left =
+-- the bytes that a landing was given are what it has to look at
+pub record IsLanding (s : State) (root : Root) (len : ℕ) (meta : Option (List ℕ)) (seen : List LookedAt) : Type 0 where
+  pub read : is_some meta ≡ (has_root (protected_in s) root && nat_le len META_LIMIT)
+  pub bytes : IfSome meta (λ bytes. (merkle_root bytes ≡ root) × (length bytes ≡ len))
+  pub looked : seen ≡ seen_of root meta
+
+pub landed : {o : Origin} {h : List Event} {s s' : State} {n1 n2 : Noted} {old : LedgerOf} {lane len : ℕ} {root : Root} {meta : Option (List ℕ)} {seen : List LookedAt}
+    → seen_as o h s ≡ old → IsLedger o h n1.spare s → n1.events ≡ h → Pushes lane (acts.Land root len None seen) n1 n2
+    → IsDueLand old.state lane root len None → IsLanding old.state root len meta seen
+    → IsSettled (seen_of root meta) (next_land s root len None) s' → Came o n2 s' old lane (acts.Land root len None seen)
+landed {o} {h} {s} {s'} {n1} {n2} {old} {lane} {len} {root} {meta} {seen} view l same pushed was_due was_given settled =
+    let due : IsDueLand s lane root len None = here (λ (t : State). IsDueLand t lane root len None) view was_due in
+    let given : IsLanding s root len meta seen = here (λ (t : State). IsLanding t root len meta seen) view was_given in
     let there = found (claim_of s.claims root) _ due.0 in
-    subst (λ (x : List LookedAt). Goes h spare' s s' lane (acts.Land root len None x)) (sym is_seen) (record {
+    came view l same pushed (record {
       later = refl;
       due = due;
-      seen = seen_landed s root len meta (not_there o h spare s lane root len None l due) read bytes;
+      seen = subst (λ (x : List LookedAt). IsSeen x (next_land s root len None).stock) (sym given.looked)
+          (seen_landed s root len meta (not_there lane root len view l was_due) given.read given.bytes);
+      settled = subst (λ (x : List LookedAt). IsSettled x (next_land s root len None) s') (sym given.looked) settled;
+      booted = refl;
+      broken = refl;
+      enough = omega (arith, pushed.spare, l.enough, shorter (λ (c : ClaimEntry). root_eq c.root root) there.it s.claims there.is);
+    })
+
+-- ---- directories
+
+pub open_goes : (s : State) (lane dir : ℕ) (root : Root) (d : Option DirEntry) → find (λ (x : DirEntry). is_of x dir lane) s.dirs ≡ d
+    → option_map (λ (x : DirEntry). x.root) d ≡ Some root → ends_due (next_close s lane dir) + 1 ≤ ends_due s
+open_goes s lane dir root None e none = absurd cc
+open_goes s lane dir root (Some d) e some = omega (arith, shorter (λ (x : DirEntry). is_of x dir lane) d s.dirs e)
+
+pub no_more : (s : State) (lane dir room : ℕ) → ends_due s + 1 ≤ room → ends_due (next_close s lane dir) + 1 ≤ room
+no_more s lane dir room enough = omega (arith, enough, no_longer (λ (x : DirEntry). not (is_of x dir lane)) s.dirs)
+
+pub closed : {o : Origin} {h : List Event} {spare : ℕ} {s s' : State} {n1 n2 : Noted} {old : LedgerOf} {lane dir : ℕ} {was : Bool}
+    → seen_as o h s ≡ old → IsLedger o h spare s → n1.events ≡ h → ends_due (next_close s lane dir) + 1 ≤ n1.spare
+    → Pushes lane (acts.Close dir was) n1 n2 → IsDueClose s lane dir was → IsSettled [] (next_close s lane dir) s'
+    → Came o n2 s' old lane (acts.Close dir was)
+closed {o} {h} {spare} {s} {s'} {n1} {n2} {old} {lane} {dir} {was} view l same room pushed due settled =
+    came view l same pushed (record {
+      later = refl;
+      due = due;
+      seen = tt;
       settled = settled;
       booted = refl;
       broken = refl;
-      enough = omega (arith, left, l.enough, shorter (λ (c : ClaimEntry). root_eq c.root root) there.it s.claims there.is);
+      enough = omega (arith, pushed.spare, room);
     })
-
--- ---- a claim ends
-
-pub put_ended : (o : Origin) (h : List Event) (spare spare' : ℕ) (s : State) (lane : ℕ) (root : Root) (end : FetchEnd) → IsLedger o h spare s → IsDuePut s lane root (Some end)
-    → spare' + 1 ≡ spare → Goes h spare' s (ended s root end) lane (acts.Put root (Some end))
-put_ended o h spare spare' s lane root (ends.Long len) l due left = record {
-  later = refl;
-  due = due;
-  seen = tt;
-  settled = ends_settled s root (ends.Long len) (ready o h spare s l);
-  booted = refl;
-  broken = refl;
-  enough = fewer o h spare spare' s root (ends.Long len) _ l due left;
-}
-put_ended o h spare spare' s lane root end l due left = absurd due
-
-pub held_put : (o : Origin) (h : List Event) (spare : ℕ) (s : State) (lane : ℕ) (root : Root) (end : FetchEnd) → IsLedger o h spare s → IsDuePut s lane root (Some end) → 1 ≤ spare
-held_put o h spare s lane root (ends.Long len) l due = held_claim o h spare s root _ l due
-held_put o h spare s lane root end l due = absurd due
-
-pub missed : (o : Origin) (h : List Event) (spare spare' : ℕ) (s : State) (lane : ℕ) (root : Root) (why : Miss) → IsLedger o h spare s → IsDueMissed s lane root
-    → spare' + 1 ≡ spare → Goes h spare' s (next_missed s root why) lane (acts.Missed root why)
-missed o h spare spare' s lane root misses.Absent l due left = record {
-  later = refl; due = due; seen = tt; settled = ends_settled s root ends.Absent (ready o h spare s l); booted = refl; broken = refl;
-  enough = fewer o h spare spare' s root ends.Absent _ l due left;
-}
-missed o h spare spare' s lane root misses.Read l due left = record {
-  later = refl; due = due; seen = tt; settled = ends_settled s root ends.Read (ready o h spare s l); booted = refl; broken = refl;
-  enough = fewer o h spare spare' s root ends.Read _ l due left;
-}
-missed o h spare spare' s lane root misses.Memory l due left =
-    let there = found (claim_of s.claims root) _ due in
-    record {
-      later = refl; due = due; seen = tt; settled = unclaims s root (ready o h spare s l); booted = refl; broken = refl;
-      enough = omega (arith, left, l.enough, shorter (λ (c : ClaimEntry). root_eq c.root root) there.it s.claims there.is);
-    }
-
--- ---- a collection
-
-picked : (t : Bool) (xs ys : List Root) → cond t (Some xs) None ≡ Some ys → ys ≡ xs
-picked true xs ys e = cc
-picked false xs ys e = absurd cc
-
-pub collected : (o : Origin) (h : List Event) (old spare spare' : ℕ) (s : State) (lane : ℕ) (roots : List Root) → IsLedger o h old s → collect_answer s ≡ Some roots
-    → ends_due s + 1 ≤ spare → spare' + 1 ≡ spare → Goes h spare' s (next_collect s (Some roots)) lane (acts.Collect (Some roots))
-collected o h old spare spare' s lane roots l answer room left = record {
-  later = refl;
-  due = sym answer;
-  seen = tt;
-  settled = subst (λ (r : List Root). IsSettled [] (next_collect s (Some r)) (next_collect s (Some r))) (sym (picked (is_committed s) (unnamed s) roots answer)) (collects s (ready o h old s l));
-  booted = refl;
-  broken = refl;
-  enough = omega (arith, left, room);
-}
-
--- ---- an update begins
-
--- what the turn of an update tells
-pub record IsTurn (s : State) (slot : Slot) : Type 0 where
-  pub runs : is_recovery s.running ≡ false
-  pub slot : slot ≡ other_slot s.running
-
-in_recovery : (t : Bool) (x : StageEnd) (slot : Slot) → cond t stages.InRecovery x ≡ stages.Turn slot → (t ≡ false) × (x ≡ stages.Turn slot)
-in_recovery true x slot e = absurd cc
-in_recovery false x slot e = (refl, e)
-
-pub turn_of : (s : State) (epoch : ℕ) (slot : Slot) → stage_answer s epoch ≡ stages.Turn slot → IsTurn s slot
-turn_of s epoch slot answer =
-    let on = in_recovery (is_recovery s.running) (held_answer s epoch s.stage) slot answer in
-    record { runs = on.0; slot = held s.stage on.1 } where
-      free : (committed older : Bool) → cond (not committed) stages.NotCommitted (cond older (stages.Older (running_epoch s)) (stages.Turn (other_slot s.running))) ≡ stages.Turn slot → slot ≡ other_slot s.running
-      free true true e = absurd cc
-      free true false e = cc
-      free false older e = absurd cc
-
-      held : (stage : Option Stage) → held_answer s epoch stage ≡ stages.Turn slot → slot ≡ other_slot s.running
-      held None e = free (is_committed s) (nat_lt epoch (running_epoch s)) e
-      held (Some stage) e = absurd cc
-
-pub not_recovery : (slot : Slot) → is_recovery slot ≡ false → slot ≢ slots.R
-not_recovery slot runs is = true≢false (sym (ap is_recovery is) ∙ runs)
-
-off : (b : Bool) → not b ≡ true → b ≡ false
-off true e = absurd (true≢false (sym e))
-off false e = refl
-
-pub pending_runs : (s : State) → is_pending s ≡ true → is_recovery s.running ≡ false
-pending_runs s pending = off (is_recovery s.running) (and_parts (not (is_recovery s.running)) (not (is_committed s)) pending).0
-
--- ---- at the event's number
-
-pub settled_at : (h : List Event) (s s' : State) (lane ticket number : ℕ) → number ≡ length h + 1 → IsSettled [] (next_want s number lane ticket wants.Opened) s'
-    → IsSettled [] (next_want s (length h + 1) lane ticket wants.Opened) s'
-settled_at h s s' lane ticket number is settled = subst (λ (n : ℕ). IsSettled [] (next_want s n lane ticket wants.Opened) s') is settled
-
-pub opened_as : (h : List Event) (s s' : State) (lane number : ℕ) (root : Root) → number ≡ length h + 1 → s' ≡ next_open_path s number lane (Some root) → s' ≡ next_open_path s (length h + 1) lane (Some root)
-opened_as h s s' lane number root is state = state ∙ ap (λ (n : ℕ). next_open_path s n lane (Some root)) is
-
--- what arrives under a ticket that is answered
-pub arrives : (s : State) (lane ticket : ℕ) (reply : WantEnd) → IsDueWant s lane ticket reply → IsSome (arrival_of s.arriving ticket)
-arrives s lane ticket reply due = first (arrival_of s.arriving ticket) due where
-  first : (a : Option Arrival) → IsSomeAnd a (IsAnswered s lane reply) → IsSome a
-  first None none = absurd none
-  first (Some a) answered = tt

@@ -28,6 +28,11 @@ origin_of g d = record { geometry = g; beginning = Lasted d }
 abbrev pub event_by : ℕ → Act → Event
 event_by lane act = record { lane = lane; act = act; broke = false }
 
+-- The lane's event of this act stands last, in a place that was there for it.
+pub record Pushes (lane : ℕ) (act : Act) (old new : Noted) : Type 0 where
+  pub events : new.events ≡ old.events ++ event_by lane act ∷ []
+  pub spare : new.spare + 1 ≡ old.spare
+
 -- the number of the next event
 abbrev pub next_number : LedgerOf → ℕ
 next_number l = length l.history + 1

@@ -12,7 +12,7 @@ ghost use Rattle.store_model.specs.Acts.Missed.{IsDueMissed, next_missed};
 ghost use Rattle.plain_state.specs.Learning.{seen_of};
 ghost use Rattle.plain_ledger.specs.Ledgers.{Notes, Stays};
 
-use crate::ledger::{Ledger, event_by, make_room};
+use crate::ledger::{Ledger, make_room};
 use fetch_queue::FetchEnd;
 use pkg_names::{Bytes, Root};
 use plain_state::State;
@@ -28,14 +28,14 @@ impl Ledger {
     {
         make_room(&mut self.history, &self.state, 1)?;
         self.state.make_room(&root, len);
-        self.history.note(event_by(
+        self.history.note(
             lane,
             Act::Room {
                 root,
                 len,
                 reply: None,
             },
-        ));
+        );
         Ok(())
     }
 
@@ -46,8 +46,7 @@ impl Ledger {
     {
         self.state.end_claim(&root, end);
         let reply = Some(end);
-        self.history
-            .note(event_by(lane, Act::Room { root, len, reply }));
+        self.history.note(lane, Act::Room { root, len, reply });
     }
 
     /// More bytes came for a claimed blob than were declared.
@@ -57,8 +56,7 @@ impl Ledger {
     {
         self.state.end_claim(&root, end);
         let reply = Some(end);
-        self.history
-            .note(event_by(lane, Act::Put { root, reply }));
+        self.history.note(lane, Act::Put { root, reply });
     }
 
     /// The bytes of a claimed blob are too few, or others. What was looked at is empty.
@@ -69,7 +67,7 @@ impl Ledger {
         self.state.end_claim(&root, end);
         let reply = Some(end);
         let seen = Looked::make(Vec::new(self.alloc));
-        self.history.note(event_by(
+        self.history.note(
             lane,
             Act::Land {
                 root,
@@ -77,7 +75,7 @@ impl Ledger {
                 reply,
                 seen,
             },
-        ));
+        );
     }
 
     /// A claimed blob is stored. Takes its bytes, where a protected package's book needs them, and the same as
@@ -98,7 +96,7 @@ impl Ledger {
         ensures err { OnErr result (Stays self.old self.new) }
     {
         self.state.store(root, len, meta)?;
-        self.history.note(event_by(
+        self.history.note(
             lane,
             Act::Land {
                 root,
@@ -106,7 +104,7 @@ impl Ledger {
                 reply: None,
                 seen,
             },
-        ));
+        );
         Ok(())
     }
 
@@ -116,8 +114,7 @@ impl Ledger {
         ensures { Notes self.old lane (acts.Missed root why) self.new }
     {
         end_missed(&mut self.state, &root, why);
-        self.history
-            .note(event_by(lane, Act::Missed { root, why }));
+        self.history.note(lane, Act::Missed { root, why });
     }
 }
 

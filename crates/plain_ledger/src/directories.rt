@@ -1,13 +1,17 @@
 //! Open packages.
 
-ghost use Rattle.std.specs.Prelude.{◌≡◌, None, Some, IfOk, OnErr};
+ghost use Rattle.std.specs.Prelude.{◌≡◌, ◌+◌, ◌≤◌, None, Some, IfOk, OnOk, OnErr};
 ghost use Rattle.open_tracker.specs.Directories.{root_of};
 ghost use Rattle.store_model.specs.declared.events.Act.TheVariants as acts;
 ghost use Rattle.store_model.specs.Acts.OpenPath.{root_to_open};
+ghost use Rattle.store_model.specs.Acts.Close.{next_close};
+ghost use Rattle.plain_state.specs.Holdings.{ends_due};
 ghost use Rattle.plain_ledger.specs.Ledgers.{Notes, NotesAt, Stays};
 
-use crate::ledger::{Ledger, event_by, make_room};
+use crate::history::History;
+use crate::ledger::{Ledger, make_room};
 use pkg_names::{PackagePath, Root};
+use plain_state::State;
 use std::alloc::AllocError;
 use store_model::Act;
 
@@ -18,12 +22,11 @@ impl Ledger {
         ensures ok { IfOk result (NotesAt self.old lane (acts.OpenPath path (Some root)) self.new) }
         ensures err { OnErr result (Stays self.old self.new) }
     {
-        make_room(&mut self.history, &self.state, 2)?;
         let number = self.history.next_number();
+        make_room(&mut self.history, &self.state, 2)?;
         self.state.open_path(number, lane, root)?;
         let reply = Some(root);
-        self.history
-            .note(event_by(lane, Act::OpenPath { path, reply }));
+        self.history.note(lane, Act::OpenPath { path, reply });
         Ok(number)
     }
 
@@ -33,20 +36,28 @@ impl Ledger {
         ensures err { OnErr result (Stays self.old self.new) }
         ensures open { OnErr result (root_of self.old.state.dirs dir lane ≡ None) }
     {
-        match self.state.root_of_dir(dir, lane) {
-            Some(_) => {
-                let closed = self.state.close_dir(dir, lane);
-                self.history
-                    .note(event_by(lane, Act::Close { dir, closed }));
-                Ok(closed)
-            }
-            None => {
-                make_room(&mut self.history, &self.state, 1)?;
-                let closed = self.state.close_dir(dir, lane);
-                self.history
-                    .note(event_by(lane, Act::Close { dir, closed }));
-                Ok(closed)
-            }
-        }
+        room_to_close(&mut self.history, &self.state, lane, dir)?;
+        let closed = self.state.close_dir(dir, lane);
+        self.history.note(lane, Act::Close { dir, closed });
+        Ok(closed)
+    }
+}
+
+// Makes room for the event that closes a directory. An open one has its place already.
+fn room_to_close(
+    history: &mut History,
+    state: &State,
+    lane: u32,
+    dir: u64,
+) -> Result<(), AllocError>
+    requires { ends_due state.now ≤ history.old.spare }
+    ensures events { history.new.events ≡ history.old.events }
+    ensures ok { OnOk result (ends_due (next_close state.now lane dir) + 1 ≤ history.new.spare) }
+    ensures kept { history.old.spare ≤ history.new.spare }
+    ensures open { OnErr result (root_of state.now.dirs dir lane ≡ None) }
+{
+    match state.root_of_dir(dir, lane) {
+        Some(_) => Ok(()),
+        None => make_room(history, state, 1),
     }
 }

@@ -1,10 +1,11 @@
 //! The history of a store, with room for more.
 
-ghost use Rattle.std.specs.Prelude.{◌≡◌, ◌+◌, ◌<◌, ◌≤◌, [], ◌∷◌, ◌++◌, length, OnOk};
+ghost use Rattle.std.specs.Prelude.{◌≡◌, ◌+◌, ◌<◌, ◌≤◌, [], length, OnOk};
+ghost use Rattle.plain_ledger.specs.Ledgers.{Pushes};
 
 use std::alloc::{AllocError, Global};
 use std::marker::Model;
-use store_model::Event;
+use store_model::{Act, Event};
 
 /// The events so far. Contracts see them, and how many more fit without memory.
 #[derive(Debug, Drop)]
@@ -46,13 +47,16 @@ impl History {
         self.events.reserve(places)
     }
 
-    /// Puts an event last.
-    pub(crate) fn note(&mut self, event: Event)
+    /// Puts the lane's event of this act last. No write failed in it.
+    pub(crate) fn note(&mut self, lane: u32, act: Act)
         requires { 0 < self.old.spare }
-        ensures events { self.new.events ≡ self.old.events ++ event ∷ [] }
-        ensures spare { self.new.spare + 1 ≡ self.old.spare }
+        ensures { Pushes lane act self.old self.new }
     {
-        self.events.push_reserved(event);
+        self.events.push_reserved(Event {
+            lane,
+            act,
+            broke: false,
+        });
     }
 
     pub(crate) fn into_vec(self) -> Vec<Event>

@@ -60,7 +60,7 @@ impl Ledger {
         ensures err { OnErr result (Stays self.old self.new) }
     {
         make_room(&mut self.history, &self.state, 1)?;
-        self.history.note(event_by(lane, act));
+        self.history.note(lane, act);
         Ok(())
     }
 }
@@ -78,16 +78,5 @@ pub(crate) fn make_room(history: &mut History, state: &State, more: usize) -> Re
             Ok(())
         }
         None => Err(AllocError),
-    }
-}
-
-/// An event in which no write failed.
-pub(crate) fn event_by(lane: u32, act: Act) -> Event
-    ensures { result ≡ record { lane = lane; act = act; broke = false } }
-{
-    Event {
-        lane,
-        act,
-        broke: false,
     }
 }

@@ -11,7 +11,7 @@ ghost use Rattle.store_model.specs.Acts.LeftStage.{IsDueLeftStage};
 ghost use Rattle.store_model.specs.Acts.Stage.{stage_answer};
 ghost use Rattle.plain_ledger.specs.Ledgers.{Notes, Stays};
 
-use crate::ledger::{Ledger, event_by, make_room};
+use crate::ledger::{Ledger, make_room};
 use abr_record::Slot;
 use image_layout::Sys;
 use plain_state::Activation;
@@ -29,8 +29,7 @@ impl Ledger {
         make_room(&mut self.history, &self.state, 2)?;
         self.state.begin_stage(lane);
         let reply = StageEnd::Turn { slot };
-        self.history
-            .note(event_by(lane, Act::Stage { epoch, reply }));
+        self.history.note(lane, Act::Stage { epoch, reply });
         Ok(())
     }
 
@@ -42,18 +41,23 @@ impl Ledger {
     {
         make_room(&mut self.history, &self.state, 1)?;
         self.state.seal(lane, *sys);
-        self.history.note(event_by(
+        self.history.note(
             lane,
             Act::Seal {
                 sys: *sys,
                 reply: None,
             },
-        ));
+        );
         Ok(())
     }
 
     /// The sealed system is judged, and is to boot next if it is whole.
-    pub fn activate(&mut self, lane: u32, sys: Sys, contents: &Contents) -> Result<ActivateEnd, AllocError>
+    pub fn activate(
+        &mut self,
+        lane: u32,
+        sys: Sys,
+        contents: &Contents,
+    ) -> Result<ActivateEnd, AllocError>
         requires stage { IsStageOf self.old.state lane (Sealed sys) }
         requires bytes { AreBytesOf contents.now self.old.state.stock }
         ensures ok { IfOk result (λ reply. (seen : List LookedAtOf) × Notes self.old lane (acts.Activate reply seen) self.new) }
@@ -61,8 +65,7 @@ impl Ledger {
     {
         make_room(&mut self.history, &self.state, 1)?;
         let Activation { reply, seen } = self.state.activate(lane, sys, contents)?;
-        self.history
-            .note(event_by(lane, Act::Activate { reply, seen }));
+        self.history.note(lane, Act::Activate { reply, seen });
         Ok(reply)
     }
 
@@ -72,7 +75,7 @@ impl Ledger {
         ensures { Notes self.old lane acts.LeftStage self.new }
     {
         self.state.leave_stage();
-        self.history.note(event_by(lane, Act::LeftStage));
+        self.history.note(lane, Act::LeftStage);
     }
 
     /// The running system is to stay.
@@ -83,8 +86,7 @@ impl Ledger {
     {
         make_room(&mut self.history, &self.state, 1)?;
         self.state.commit();
-        self.history
-            .note(event_by(lane, Act::Commit { done: true }));
+        self.history.note(lane, Act::Commit { done: true });
         Ok(())
     }
 }

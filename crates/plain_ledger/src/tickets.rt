@@ -12,7 +12,7 @@ ghost use Rattle.store_model.specs.Acts.GaveUp.{IsDueGaveUp};
 ghost use Rattle.plain_state.specs.Learning.{seen_of};
 ghost use Rattle.plain_ledger.specs.Ledgers.{Notes, NotesAt, Stays};
 
-use crate::ledger::{Ledger, event_by, make_room};
+use crate::ledger::{Ledger, make_room};
 use package_indexes::Choice;
 use pkg_names::{Bytes, PackagePath, Root};
 use std::alloc::AllocError;
@@ -38,11 +38,11 @@ impl Ledger {
         ensures ok { IfOk result (NotesAt self.old lane (acts.Begin path choice (begun.Ticket root) seen) self.new) }
         ensures err { OnErr result (Stays self.old self.new) }
     {
-        make_room(&mut self.history, &self.state, 2)?;
         let number = self.history.next_number();
+        make_room(&mut self.history, &self.state, 2)?;
         self.state.begin(number, lane, &path, root, meta)?;
         let reply = BeginEnd::Ticket(root);
-        self.history.note(event_by(
+        self.history.note(
             lane,
             Act::Begin {
                 path,
@@ -50,7 +50,7 @@ impl Ledger {
                 reply,
                 seen,
             },
-        ));
+        );
         Ok(number)
     }
 
@@ -61,8 +61,7 @@ impl Ledger {
     {
         self.state.end_ticket(ticket);
         let reply = WantEnd::Failed(cause);
-        self.history
-            .note(event_by(lane, Act::Want { ticket, reply }));
+        self.history.note(lane, Act::Want { ticket, reply });
     }
 
     /// A package that arrives is opened. The event's number is the directory.
@@ -71,12 +70,11 @@ impl Ledger {
         ensures ok { IfOk result (NotesAt self.old lane (acts.Want ticket wants.Opened) self.new) }
         ensures err { OnErr result (Stays self.old self.new) }
     {
-        make_room(&mut self.history, &self.state, 1)?;
         let number = self.history.next_number();
+        make_room(&mut self.history, &self.state, 1)?;
         self.state.open_arrived(number, lane, ticket)?;
         let reply = WantEnd::Opened;
-        self.history
-            .note(event_by(lane, Act::Want { ticket, reply }));
+        self.history.note(lane, Act::Want { ticket, reply });
         Ok(number)
     }
 
@@ -89,8 +87,7 @@ impl Ledger {
         make_room(&mut self.history, &self.state, 2)?;
         self.state.grant(root, lane)?;
         let reply = WantEnd::Fetch(root);
-        self.history
-            .note(event_by(lane, Act::Want { ticket, reply }));
+        self.history.note(lane, Act::Want { ticket, reply });
         Ok(())
     }
 
@@ -100,6 +97,6 @@ impl Ledger {
         ensures { Notes self.old lane (acts.GaveUp ticket) self.new }
     {
         self.state.end_ticket(ticket);
-        self.history.note(event_by(lane, Act::GaveUp { ticket }));
+        self.history.note(lane, Act::GaveUp { ticket });
     }
 }

@@ -5,7 +5,7 @@ ghost use Rattle.store_model.specs.declared.events.Act.TheVariants as acts;
 ghost use Rattle.store_model.specs.Acts.Collect.{collect_answer};
 ghost use Rattle.plain_ledger.specs.Ledgers.{Notes, Stays};
 
-use crate::ledger::{Ledger, event_by, make_room};
+use crate::ledger::{Ledger, make_room};
 use pkg_names::Roots;
 use std::alloc::AllocError;
 use store_model::Act;
@@ -20,7 +20,7 @@ impl Ledger {
         make_room(&mut self.history, &self.state, 1)?;
         self.state.collect(&roots);
         let reply = Some(roots);
-        self.history.note(event_by(lane, Act::Collect { reply }));
+        self.history.note(lane, Act::Collect { reply });
         Ok(())
     }
 }

@@ -1,16 +1,12 @@
 use Rattle.std.proofs.Common.{refl, arith}
-use Rattle.plain_ledger.proofs.Ledgers.{holds_on, told}
-use Rattle.plain_ledger.proofs.Steps.{held_claim, room_ended}
+use Rattle.plain_ledger.proofs.Steps.{room_ended, held_claim}
 use Rattle.plain_ledger.proofs.ledger.Ledger.end_room.Goals as goal
 
 pub note-requires : goal.note-requires
-note-requires c =
-    omega (arith, held_claim _ _ _ _ _ _ c.self.invariant c.requires.0)
+note-requires c = omega (arith, held_claim _ _ c.self.view_is c.self.invariant c.requires.0)
 
 pub invariant_of-self : goal.invariant_of-self
-invariant_of-self c =
-    holds_on _ _ _ _ _ _ _ _ _ _ _ _ refl c.note.ensures.events c.event_by.ensures c.end_claim.ensures c.self.invariant (room_ended _ _ _ _ _ _ _ _ _ c.self.invariant c.requires c.note.ensures.spare)
+invariant_of-self c = (room_ended c.self.view_is c.self.invariant refl c.note.ensures c.requires c.end_claim.ensures).holds
 
 pub returns : goal.returns
-returns c =
-    told _ _ _ _ _ _ _ _ _ _ _ _ _ c.self.view_is refl c.note.ensures.events c.event_by.ensures c.end_claim.ensures c.self.invariant (room_ended _ _ _ _ _ _ _ _ _ c.self.invariant c.requires c.note.ensures.spare)
+returns c = (room_ended c.self.view_is c.self.invariant refl c.note.ensures c.requires c.end_claim.ensures).told

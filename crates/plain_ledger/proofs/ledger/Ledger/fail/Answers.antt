@@ -1,20 +1,16 @@
 use Rattle.std.proofs.Common.{refl, arith}
-use Rattle.plain_ledger.proofs.Ledgers.{ready, holds_on, told}
-use Rattle.plain_ledger.proofs.Steps.{failed, held_ticket}
+use Rattle.plain_ledger.proofs.Ledgers.{ready}
+use Rattle.plain_ledger.proofs.Looks.{failed, held_ticket}
 use Rattle.plain_ledger.proofs.ledger.Ledger.fail.Goals as goal
 
 pub end_ticket-requires : goal.end_ticket-requires
-end_ticket-requires c =
-    ready _ _ _ _ c.self.invariant
+end_ticket-requires c = ready c.self.invariant
 
 pub note-requires : goal.note-requires
-note-requires c =
-    omega (arith, held_ticket _ _ _ _ _ _ c.self.invariant c.requires)
+note-requires c = omega (arith, held_ticket _ _ c.self.view_is c.self.invariant c.requires)
 
 pub invariant_of-self : goal.invariant_of-self
-invariant_of-self c =
-    holds_on _ _ _ _ _ _ _ _ _ _ _ _ refl c.note.ensures.events c.event_by.ensures refl c.self.invariant (failed _ _ _ _ _ _ _ _ _ c.self.invariant c.requires c.end_ticket.ensures c.note.ensures.spare)
+invariant_of-self c = (failed c.self.view_is c.self.invariant refl c.note.ensures c.requires c.end_ticket.ensures).holds
 
 pub returns : goal.returns
-returns c =
-    told _ _ _ _ _ _ _ _ _ _ _ _ _ c.self.view_is refl c.note.ensures.events c.event_by.ensures refl c.self.invariant (failed _ _ _ _ _ _ _ _ _ c.self.invariant c.requires c.end_ticket.ensures c.note.ensures.spare)
+returns c = (failed c.self.view_is c.self.invariant refl c.note.ensures c.requires c.end_ticket.ensures).told

@@ -1,32 +1,11 @@
-use Rattle.store_model.proofs.LanesOnce.{granted as granted_to}
-use Rattle.plain_ledger.proofs.Ledgers.{same_state, same_as, holds_on, told, rested, waits_on}
-use Rattle.plain_ledger.proofs.Steps.{granted}
+use Rattle.plain_ledger.proofs.Steps.{free, granted}
 use Rattle.plain_ledger.proofs.ledger.Ledger.grant.Goals as goal
 
 pub grant-requires : goal.grant-requires
-grant-requires c =
-    (granted_to _ _ _ _ c.requires).claimed
+grant-requires c = free _ _ _ c.self.view_is c.requires
 
-pub invariant_of-self : goal.invariant_of-self
-invariant_of-self c =
-    holds_on _ _ _ _ _ _ _ _ _ _ _ _ c.make_room.ensures.events c.note.ensures.events c.event_by.ensures (c.in_ok-grant.ensures.ok 0 0) c.self.invariant (granted _ _ _ _ _ _ _ _ _ c.self.invariant c.requires c.in_ok-make_room.ensures.ok c.note.ensures.spare)
+pub invariant_of-self-2 : goal.invariant_of-self-2
+invariant_of-self-2 c = (granted c.self.view_is c.self.invariant c.make_room.ensures.events c.in_ok-make_room.ensures.ok c.note.ensures c.requires (c.in_ok-grant.ensures.ok 0 0)).holds
 
 pub returns-clause-ok : goal.returns-clause-ok
-returns-clause-ok c =
-    told _ _ _ _ _ _ _ _ _ _ _ _ _ c.self.view_is c.make_room.ensures.events c.note.ensures.events c.event_by.ensures (c.in_ok-grant.ensures.ok 0 0) c.self.invariant (granted _ _ _ _ _ _ _ _ _ c.self.invariant c.requires c.in_ok-make_room.ensures.ok c.note.ensures.spare)
-
-pub invariant_of-self-in_err-make_room : goal.invariant_of-self-in_err-make_room
-invariant_of-self-in_err-make_room c =
-    waits_on _ _ _ _ _ _ _ c.make_room.ensures.events c.self.invariant (same_state _) c.make_room.ensures.kept
-
-pub returns-in_err-make_room-clause-err : goal.returns-in_err-make_room-clause-err
-returns-in_err-make_room-clause-err c =
-    rested _ _ _ _ _ _ _ c.self.view_is c.make_room.ensures.events c.self.invariant (same_state _)
-
-pub invariant_of-self-in_err-grant : goal.invariant_of-self-in_err-grant
-invariant_of-self-in_err-grant c =
-    waits_on _ _ _ _ _ _ _ c.make_room.ensures.events c.self.invariant (same_as _ _ c.in_err-grant.ensures.err) c.make_room.ensures.kept
-
-pub returns-in_err-grant-clause-err : goal.returns-in_err-grant-clause-err
-returns-in_err-grant-clause-err c =
-    rested _ _ _ _ _ _ _ c.self.view_is c.make_room.ensures.events c.self.invariant (same_as _ _ c.in_err-grant.ensures.err)
+returns-clause-ok c = (granted c.self.view_is c.self.invariant c.make_room.ensures.events c.in_ok-make_room.ensures.ok c.note.ensures c.requires (c.in_ok-grant.ensures.ok 0 0)).told
