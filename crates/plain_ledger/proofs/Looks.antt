@@ -30,6 +30,8 @@ use Rattle.store_model.specs.Acts.Land.{IsDueLand, next_land}
 use Rattle.store_model.specs.Acts.Want.{IsAnswered, IsDueWant, next_want, with_directory}
 use Rattle.store_model.specs.Acts.GaveUp.{IsDueGaveUp, next_gave_up}
 use Rattle.store_model.specs.Acts.Close.{IsDueClose, next_close}
+use Rattle.store_model.specs.Acts.Retain.{IsFree, next_retain}
+use Rattle.store_model.specs.declared.ends.RetainEnd.TheVariants as retains
 use Rattle.store_model.proofs.LanesOnce.{claimed_missing}
 use Rattle.plain_state.specs.Holdings.{ends_due, stage_ends}
 use Rattle.plain_state.specs.Learning.{IsSettled, seen_of}
@@ -186,3 +188,20 @@ pub closed : {o : Origin} {h : List Event} {spare : ℕ} {s s2 : State} {n1 n2 :
 closed {lane = lane} {dir = dir} {was = was} view l same room pushed due settled =
     quietly view l same pushed (subst (λ (t : LedgerOf). IsDueClose t.state lane dir was) view due) refl refl refl refl settled
     (omega (arith, pushed.spare, room))
+
+-- ---- packages are retained
+
+pub retained : {o : Origin} {h : List Event} {spare : ℕ} {s s2 : State} {n1 n2 : Noted} {old : LedgerOf} {lane : ℕ} {given roots : List Root} {seen : List LookedAt}
+    → seen_as o h s ≡ old → IsLedger o h spare s → n1.events ≡ h → ends_due s + 1 ≤ n1.spare
+    → Pushes lane (acts.Retain roots retains.Done seen) n1 n2 → roots ≡ given → IsFree old.state → IsSeen seen s.stock
+    → IsSettled seen (next_retain s given retains.Done) s2 → Came o n2 s2 old lane (acts.Retain given retains.Done seen)
+retained {n1 = n1} {n2 = n2} {lane = lane} {seen = seen} view l same room pushed copied free there settled =
+    came view l same (subst (λ (r : List Root). Pushes lane (acts.Retain r retains.Done seen) n1 n2) copied pushed) (record {
+      later = refl;
+      due = here IsFree view free;
+      seen = there;
+      settled = settled;
+      booted = refl;
+      broken = refl;
+      enough = omega (arith, pushed.spare, room);
+    })
