@@ -1,0 +1,8 @@
+use Rattle.plain_ledger.proofs.Steps.{committed}
+use Rattle.plain_ledger.proofs.ledger.Ledger.commit.Goals as goal
+
+pub invariant_of-self-2 : goal.invariant_of-self-2
+invariant_of-self-2 c = (committed c.self.view_is c.self.invariant c.make_room.ensures.events c.in_ok-make_room.ensures.ok c.note.ensures c.requires c.commit.ensures).holds
+
+pub returns-clause-ok : goal.returns-clause-ok
+returns-clause-ok c = (committed c.self.view_is c.self.invariant c.make_room.ensures.events c.in_ok-make_room.ensures.ok c.note.ensures c.requires c.commit.ensures).told
