@@ -1,0 +1,6 @@
+//! A store in memory, and a lane's desk at it.
+#![tactic(auto)]
+
+mod drafts;
+mod images;
+mod store;
