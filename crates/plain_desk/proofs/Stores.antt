@@ -1,33 +1,36 @@
 -- A call of a ledger, as a call at a desk.
 use Rattle.std.proofs.Common.{◌≡◌, ◌≢◌, ◌≤◌, ℕ, ◌+◌, Bool, true, false, cond, inl, inr, List, [], ◌∷◌, ◌++◌, length, All, append-nil, Option, Some, None, refl, sym, ap, subst, arith, eq-eqb, ◌∙◌}
-use Rattle.std.specs.Prelude.{IsSomeAnd, ◌==◌}
+use Rattle.std.specs.Prelude.{IsSomeAnd, ◌==◌, Result, Ok, Err, IfOk, OnErr, map, filter}
+use Rattle.std.specs.Option.{option_to_list}
+use Rattle.fetch_queue.specs.declared.queue.ClaimEntry.{ClaimEntry}
 use Rattle.std.proofs.lemmas.Bool.{cases_Bool, eqb-true, true≢false}
 use Rattle.std.proofs.lemmas.List.Elements.{All-nil, All-push}
 use Rattle.pkg_names.specs.declared.root.Root.{Root}
-use Rattle.image_layout.specs.declared.ImageKind.{ImageKind}
+use Rattle.open_tracker.specs.Directories.{root_of}
 use Rattle.store_model.specs.declared.events.Act.{Act}
+use Rattle.store_model.specs.declared.events.Act.TheVariants as acts
 use Rattle.store_model.specs.declared.events.Event.{Event}
 use Rattle.store_model.specs.declared.events.LookedAt.{LookedAt}
 use Rattle.store_model.specs.declared.replies.Ticket.{Ticket}
 use Rattle.store_model.specs.State.{State, Stored, Arrival, arrival_of, is_stored}
-use Rattle.store_model.specs.Step.{IsDue}
+use Rattle.store_model.specs.Step.{IsDue, next}
 use Rattle.store_model.specs.History.{Numbered, after, of_lane}
 use Rattle.store_model.specs.Footprints.{footprint_of}
-use Rattle.store_model.specs.Held.{HasHandles, IsTicketIn}
+use Rattle.store_model.specs.Held.{HasHandles, IsTicketIn, claim_in}
 use Rattle.store_model.specs.Files.{found}
 use Rattle.store_model.specs.Files.Found.{Outer}
-use Rattle.store_model.specs.Holding.{Held, HeldTicket, held, held_after_act, ticket_with}
-use Rattle.store_model.specs.Desk.{Keeping, Does, Rests, Keeps}
-use Rattle.store_model.specs.Desk.Keeping.{Blob, Image}
+use Rattle.store_model.specs.Holding.{Held, HeldTicket, HeldClaim, held, held_after_act, ticket_with}
+use Rattle.store_model.specs.Desk.{View, Fillers, Does, Rests}
 use Rattle.store_model.proofs.Views.{of_lane-push, of_lane-others}
 use Rattle.store_model.proofs.Calls.{held-push}
 use Rattle.store_model.proofs.SameBooks.{found_same}
 use Rattle.store_model.proofs.Sound.{files_there}
 use Rattle.store_model.proofs.Frames.{keeps_next}
+use Rattle.store_model.proofs.Holding.{holds_as_state}
 use Rattle.store_model.proofs.HoldingThere.{handles_there}
 use Rattle.plain_stock.specs.Contents.{AreBytesOf}
-use Rattle.plain_ledger.specs.Ledgers.{LedgerOf, Agrees, Notes, Stays, event_by, next_number}
-use Rattle.plain_desk.specs.Stores.{DraftOf, Drafted, ImagesOf, StoreOf, HaveRoom, IsStore, draft_of, room_in, len_of, room_of, kept_for, view_of}
+use Rattle.plain_ledger.specs.Ledgers.{LedgerOf, Agrees, Notes, Stays, Tells, event_by, next_number}
+use Rattle.plain_desk.specs.Stores.{DraftOf, Drafted, ImagesOf, StoreOf, HaveRoom, IsStore, draft_of, room_in, len_of, room_of, view_of}
 
 -- the store with this ledger and these drafts and images
 abbrev pub store_of : LedgerOf → List DraftOf → ImagesOf → StoreOf
@@ -37,11 +40,23 @@ store_of l drafts images = record { origin = l.origin; history = l.history; draf
 abbrev number_after : List Event → ℕ
 number_after seen = length seen + 1
 
+-- what is seen of a lane's desk at a store with this ledger
+abbrev pub view_at : List ℕ → ℕ → LedgerOf → Fillers → View
+view_at tie lane l fillers = record {
+  lane = lane;
+  tie = tie;
+  origin = l.origin;
+  seen = l.history;
+  mine = of_lane lane l.history;
+  fillers = fillers;
+}
+
 -- ---- what a call does
 
-does_at : (tie : List ℕ) (lane : ℕ) (old new : LedgerOf) (drafts drafts' : List DraftOf) (images images' : ImagesOf) (act : Act) (IsIts : ℕ → Event → Type 0) → Notes old lane act new
-    → IsIts (next_number old) (event_by lane act) → Does (view_of tie lane (store_of old drafts images)) (view_of tie lane (store_of new drafts' images')) IsIts
-does_at tie lane old new drafts drafts' images images' act IsIts n its =
+does_at : (tie : List ℕ) {lane : ℕ} {old new : LedgerOf} (fillers fillers' : Fillers) {act : Act}
+    (IsIts : ℕ → Event → Type 0) → Notes old lane act new → IsIts (next_number old) (event_by lane act)
+    → Does (view_at tie lane old fillers) (view_at tie lane new fillers') IsIts
+does_at tie {lane} {old} {new} fillers fillers' {act} IsIts n its =
     let e : Event = event_by lane act in
     let front : old.history ++ [] ≡ old.history = append-nil old.history in
     record {
@@ -60,16 +75,21 @@ does_at tie lane old new drafts drafts' images images' act IsIts n its =
     }
 
 -- The call's event came: `was` is the store before it.
-pub does : (tie : List ℕ) (lane : ℕ) (old new : LedgerOf) (drafts drafts' : List DraftOf) (images images' : ImagesOf) (was : StoreOf) (act : Act) (IsIts : ℕ → Event → Type 0)
-    → store_of old drafts images ≡ was → Notes old lane act new → IsIts (next_number old) (event_by lane act)
-    → Does (view_of tie lane was) (view_of tie lane (store_of new drafts' images')) IsIts
-does tie lane old new drafts drafts' images images' was act IsIts is n its =
-    subst (λ (s : StoreOf). Does (view_of tie lane s) (view_of tie lane (store_of new drafts' images')) IsIts) is
-    (does_at tie lane old new drafts drafts' images images' act IsIts n its)
+pub does : {tie : List ℕ} {lane : ℕ} {old new : LedgerOf} {drafts : List DraftOf} {images : ImagesOf} {fillers : Fillers}
+    {was : StoreOf} {act : Act} (IsIts : ℕ → Event → Type 0) → store_of old drafts images ≡ was → Notes old lane act new
+    → IsIts (next_number old) (event_by lane act) → Does (view_of tie lane was) (view_at tie lane new fillers) IsIts
+does {tie} {lane} {old} {new} {drafts} {images} {fillers} IsIts is n its =
+    subst (λ (s : StoreOf). Does (view_of tie lane s) (view_at tie lane new fillers) IsIts) is
+    (does_at tie images.fillers fillers IsIts n its)
 
-rests_at : (tie : List ℕ) (lane : ℕ) (old new : LedgerOf) (drafts drafts' : List DraftOf) (images images' : ImagesOf) → Stays old new
-    → Rests (view_of tie lane (store_of old drafts images)) (view_of tie lane (store_of new drafts' images'))
-rests_at tie lane old new drafts drafts' images images' s = record {
+pub tells : {tie : List ℕ} {lane : ℕ} {old new : LedgerOf} {drafts : List DraftOf} {images : ImagesOf} {fillers : Fillers}
+    {was : StoreOf} (IsIts : ℕ → Event → Type 0) → store_of old drafts images ≡ was → Tells lane IsIts old new
+    → Does (view_of tie lane was) (view_at tie lane new fillers) IsIts
+tells IsIts is t = does IsIts is t.notes t.its
+
+rests_at : (tie : List ℕ) (lane : ℕ) {old new : LedgerOf} (fillers fillers' : Fillers)
+    → Stays old new → Rests (view_at tie lane old fillers) (view_at tie lane new fillers')
+rests_at tie lane {old} {new} fillers fillers' s = record {
   stays = record { lane = refl; tie = refl; origin = s.origin };
   others = [];
   are_others = All-nil (λ (x : Event). x.lane ≢ lane);
@@ -80,26 +100,14 @@ rests_at tie lane old new drafts drafts' images images' s = record {
 }
 
 -- Nothing came.
-pub rests : (tie : List ℕ) (lane : ℕ) (old new : LedgerOf) (drafts drafts' : List DraftOf) (images images' : ImagesOf) (was : StoreOf) → store_of old drafts images ≡ was → Stays old new
-    → Rests (view_of tie lane was) (view_of tie lane (store_of new drafts' images'))
-rests tie lane old new drafts drafts' images images' was is stays =
-    subst (λ (s : StoreOf). Rests (view_of tie lane s) (view_of tie lane (store_of new drafts' images'))) is
-    (rests_at tie lane old new drafts drafts' images images' stays)
-
--- What was kept is kept, where neither a draft nor an image changes.
-pub keeps : (lane : ℕ) (old new : LedgerOf) (drafts : List DraftOf) (images : ImagesOf) (was : StoreOf) → store_of old drafts images ≡ was
-    → Keeps (kept_for lane was) (kept_for lane (store_of new drafts images))
-keeps lane old new drafts images was is = subst (λ (s : StoreOf). Keeps (kept_for lane s) (kept_for lane (store_of new drafts images))) is same where
-  same : (what : Keeping) (bytes : List ℕ) → kept_for lane (store_of old drafts images) what bytes → kept_for lane (store_of new drafts images) what bytes
-  same Blob bytes kept = kept
-  same (Image image) bytes kept = kept
+pub rests : {tie : List ℕ} {lane : ℕ} {old new : LedgerOf} {drafts : List DraftOf} {images : ImagesOf} {fillers : Fillers}
+    {was : StoreOf} → store_of old drafts images ≡ was → Stays old new
+    → Rests (view_of tie lane was) (view_at tie lane new fillers)
+rests {tie} {lane} {old} {new} {drafts} {images} {fillers} is stays =
+    subst (λ (s : StoreOf). Rests (view_of tie lane s) (view_at tie lane new fillers)) is
+    (rests_at tie lane images.fillers fillers stays)
 
 -- ---- what holds of the parts after a call
-
--- the state after an event has the stock of the act's next state
-stock_after : (old new : LedgerOf) (lane : ℕ) (act : Act) → Notes old lane act new → (footprint_of act).stock ≡ false → new.state.stock ≡ old.state.stock
-stock_after old new lane act n kept =
-    ap (λ (s : State). s.stock) n.state.rest ∙ (keeps_next old.state (next_number old) lane act).stock kept
 
 -- the room that the lane has after its event
 own_room : (old new : LedgerOf) (lane : ℕ) (act : Act) → Notes old lane act new
@@ -139,17 +147,6 @@ have_room old new lane act drafts drafts' room bytes n had d is few = record {
   ];
 }
 
--- an event that leaves the lane's claim
-same_rooms : (old new : LedgerOf) (lane : ℕ) (act : Act) (drafts : List DraftOf) → Notes old lane act new
-    → (held_after_act (held (of_lane lane old.history)) (next_number old) lane act).claim ≡ (held (of_lane lane old.history)).claim → HaveRoom drafts old.history → HaveRoom drafts new.history
-same_rooms old new lane act drafts n claim had = record { rooms = λ other. had.rooms other ∙ same other; enough = had.enough } where
-  same : (other : ℕ) → room_of other old.history ≡ room_of other new.history
-  same other = elim (cases_Bool (lane == other)) [
-    | inl own ↦
-        ap (λ (l : ℕ). room_of l old.history) (sym (eqb-true lane other own)) ∙ ap len_of (sym claim) ∙ sym (own_room old new lane act n) ∙ ap (λ (l : ℕ). room_of l new.history) (eqb-true lane other own)
-    | inr differs ↦ sym (others_room old new lane act n other differs)
-  ]
-
 none_left : (xs : List ℕ) → length xs ≤ 0 → xs ≡ []
 none_left [] few = refl
 none_left (x ∷ xs) few = absurd (omega (arith, few))
@@ -158,24 +155,132 @@ none_left (x ∷ xs) few = absurd (omega (arith, few))
 pub no_draft : (drafts : List DraftOf) (history : List Event) (lane : ℕ) → HaveRoom drafts history → room_of lane history ≡ 0 → draft_of drafts lane ≡ []
 no_draft drafts history lane had none = none_left (draft_of drafts lane) (omega (arith, had.enough lane, had.rooms lane, none))
 
--- neither what is stored changes nor what the lane has room for
-pub store_after : (old new : LedgerOf) (lane : ℕ) (act : Act) (contents : List LookedAt) (drafts : List DraftOf) (images : ImagesOf) → IsStore old contents drafts images → Notes old lane act new
-    → (footprint_of act).stock ≡ false → (held_after_act (held (of_lane lane old.history)) (next_number old) lane act).claim ≡ (held (of_lane lane old.history)).claim
-    → IsStore new contents drafts images
-store_after old new lane act contents drafts images is n stock claim = record {
-  holds = n.holds;
-  stored = subst (λ (x : List Stored). AreBytesOf contents x) (sym (stock_after old new lane act n stock)) is.stored;
-  roomy = same_rooms old new lane act drafts n claim is.roomy;
+-- ---- what most calls leave
+
+-- The blobs that are stored, and the room that each lane has.
+pub record Moves (old new : LedgerOf) : Type 0 where
+  pub holds : Agrees new
+  pub stock : new.state.stock ≡ old.state.stock
+  pub rooms : (lane : ℕ) → room_of lane new.history ≡ room_of lane old.history
+  pub broken : new.state.broken ≡ old.state.broken
+
+pub moved : {old new : LedgerOf} {blobs : List LookedAt} {drafts : List DraftOf} {images : ImagesOf}
+    → IsStore old blobs drafts images → Moves old new → IsStore new blobs drafts images
+moved {old} {new} {blobs} {drafts} {images} is m = record {
+  holds = m.holds;
+  stored = subst (λ (x : List Stored). AreBytesOf blobs x) (sym m.stock) is.stored;
+  roomy = record { rooms = λ lane. is.roomy.rooms lane ∙ sym (m.rooms lane); enough = is.roomy.enough };
   filled = is.filled;
+  unbroken = m.broken ∙ is.unbroken;
 }
 
-pub store_stays : (old new : LedgerOf) (contents : List LookedAt) (drafts : List DraftOf) (images : ImagesOf) → IsStore old contents drafts images → Stays old new → IsStore new contents drafts images
-store_stays old new contents drafts images is s = record {
+pub stays_moves : {old new : LedgerOf} → Stays old new → Moves old new
+stays_moves s = record {
   holds = s.holds;
-  stored = subst (λ (x : List Stored). AreBytesOf contents x) (sym (ap (λ (x : State). x.stock) s.state.rest)) is.stored;
-  roomy = subst (HaveRoom drafts) (sym s.history) is.roomy;
-  filled = is.filled;
+  stock = ap (λ (x : State). x.stock) s.state.rest;
+  rooms = λ lane. ap (room_of lane) s.history;
+  broken = ap (λ (x : State). x.broken) s.state.rest;
 }
+
+-- no act notes a write that failed
+none_breaks : (act : Act) → (footprint_of act).broken ≡ false
+none_breaks acts.LeftStage = refl
+none_breaks act = refl
+
+pub notes_unbroken : {old new : LedgerOf} {lane : ℕ} {act : Act} → Notes old lane act new → new.state.broken ≡ old.state.broken
+notes_unbroken {old} {new} {lane} {act} n =
+    ap (λ (s : State). s.broken) n.state.rest ∙ (keeps_next old.state (next_number old) lane act).broken (none_breaks act)
+
+-- an event that leaves the stock and its lane's room
+pub notes_moves : {old new : LedgerOf} {lane : ℕ} {act : Act} → Notes old lane act new
+    → (next old.state (next_number old) lane act).stock ≡ old.state.stock
+    → len_of (held_after_act (held (of_lane lane old.history)) (next_number old) lane act).claim ≡ room_of lane old.history
+    → Moves old new
+notes_moves {old} {new} {lane} {act} n stock room = record {
+  holds = n.holds;
+  stock = ap (λ (s : State). s.stock) n.state.rest ∙ stock;
+  rooms = λ other. elim (cases_Bool (lane == other)) [
+    | inl own ↦
+        ap (λ (l : ℕ). room_of l new.history) (sym (eqb-true lane other own)) ∙ own_room old new lane act n ∙ room
+        ∙ ap (λ (l : ℕ). room_of l old.history) (eqb-true lane other own)
+    | inr differs ↦ others_room old new lane act n other differs
+  ];
+  broken = notes_unbroken n;
+}
+
+same_claim : (a b : Option HeldClaim) → option_to_list a ≡ option_to_list b → a ≡ b
+same_claim None None e = refl
+same_claim None (Some y) e = absurd cc
+same_claim (Some x) None e = absurd cc
+same_claim (Some x) (Some y) e = let same : x ≡ y = cc in ap Some same
+
+-- the lane's claim, by the claims of the state
+claim_there : (l : LedgerOf) (lane : ℕ) → Agrees l → option_to_list (held (of_lane lane l.history)).claim
+    ≡ map claim_in (filter (λ (claim : ClaimEntry). claim.lane == lane) l.state.claims)
+claim_there l lane a =
+    (holds_as_state l.origin l.history lane a.legal).claim
+    ∙ sym (ap (λ (s : State). map claim_in (filter (λ (claim : ClaimEntry). claim.lane == lane) s.claims)) a.mirrors.rest)
+
+pub tells_moves : {old new : LedgerOf} {lane : ℕ} {IsIts : ℕ → Event → Type 0} → Agrees old → Tells lane IsIts old new
+    → Moves old new
+tells_moves {old} {new} a t = record {
+  holds = t.notes.holds;
+  stock = t.stock;
+  rooms = λ other. ap len_of (same_claim (held (of_lane other new.history)).claim (held (of_lane other old.history)).claim
+      (claim_there new other t.notes.holds
+      ∙ ap (λ (cs : List ClaimEntry). map claim_in (filter (λ (claim : ClaimEntry). claim.lane == other) cs)) t.claims
+      ∙ sym (claim_there old other a)));
+  broken = notes_unbroken t.notes;
+}
+
+-- an event that leaves the stock and the claims
+pub told : {old new : LedgerOf} {lane : ℕ} {act : Act} {IsIts : ℕ → Event → Type 0} → Notes old lane act new
+    → IsIts (next_number old) (event_by lane act) → (next old.state (next_number old) lane act).stock ≡ old.state.stock
+    → (next old.state (next_number old) lane act).claims ≡ old.state.claims → Tells lane IsIts old new
+told {old} {new} {lane} {act} n its stock claims = record {
+  act = act;
+  its = its;
+  notes = n;
+  stock = ap (λ (s : State). s.stock) n.state.rest ∙ stock;
+  claims = ap (λ (s : State). s.claims) n.state.rest ∙ claims;
+}
+
+-- what was so of the store that was seen is so of the store
+pub here : {l : LedgerOf} {drafts : List DraftOf} {images : ImagesOf} {was : StoreOf} (P : StoreOf → Type 0)
+    → store_of l drafts images ≡ was → P was → P (store_of l drafts images)
+here P is so = subst P (sym is) so
+
+-- nothing was done
+pub still : {l : LedgerOf} → Agrees l → Stays l l
+still {l} a = record {
+  origin = refl;
+  history = refl;
+  state = record { rest = refl; books = λ root. refl };
+  holds = a;
+}
+
+-- the desk sees that no write failed
+pub unbroken_at : {l : LedgerOf} → Agrees l → l.state.broken ≡ None → (after l.origin l.history).broken ≡ None
+unbroken_at {l} a none = sym (ap (λ (s : State). s.broken) a.mirrors.rest) ∙ none
+
+-- so it is either way
+pub either : {A E : Type 0} {P : A → Type 0} {Q X : Type 0} (r : Result A E) → ((a : A) → P a → X) → (Q → X)
+    → IfOk r P → OnErr r Q → X
+either (Ok a) on_ok on_err ok err = on_ok a ok
+either (Err e) on_ok on_err ok err = on_err err
+
+pub answered : {A E : Type 0} {old new : LedgerOf} {blobs : List LookedAt} {drafts : List DraftOf} {images : ImagesOf}
+    (lane : ℕ) (IsIts : A → ℕ → Event → Type 0) (r : Result A E) → IsStore old blobs drafts images
+    → IfOk r (λ reply. Tells lane (IsIts reply) old new) → OnErr r (Stays old new) → IsStore new blobs drafts images
+answered lane IsIts (Ok a) is ok err = moved is (tells_moves is.holds ok)
+answered lane IsIts (Err e) is ok err = moved is (stays_moves err)
+
+-- a directory that isn't open, as the desk sees it
+pub not_open : {old new : LedgerOf} (dir lane : ℕ) → Stays old new → root_of old.state.dirs dir lane ≡ None
+    → root_of (after new.origin new.history).dirs dir lane ≡ None
+not_open {old} {new} dir lane s none =
+    sym (ap (λ (t : State). root_of t.dirs dir lane) s.holds.mirrors.rest)
+    ∙ ap (λ (t : State). root_of t.dirs dir lane) s.state.rest ∙ none
 
 -- ---- files
 

@@ -4,6 +4,13 @@ use Rattle.image_layout.specs.declared.ImageKind.{ImageKind}
 use Rattle.image_layout.specs.declared.ImageKind.TheVariants as images
 use Rattle.store_model.specs.declared.events.Event.{Event}
 use Rattle.store_model.specs.declared.events.LookedAt.{LookedAt}
+use Rattle.pkg_names.specs.NameAndVariant.{NameAndVariant}
+use Rattle.package_indexes.specs.declared.Choice.{Choice}
+use Rattle.store_model.specs.declared.events.Act.TheVariants as acts
+use Rattle.store_model.specs.declared.ends.BeginEnd.{BeginEnd}
+use Rattle.store_model.specs.declared.ends.BeginEnd.TheVariants as begins
+use Rattle.store_model.specs.declared.replies.BeginReply.{BeginReply}
+use Rattle.store_model.specs.Replies.{Looks, IsBegun}
 use Rattle.store_model.specs.History.{Origin, of_lane}
 use Rattle.store_model.specs.Holding.{HeldClaim, held}
 use Rattle.pkg_names.specs.declared.root.Root.{Root}
@@ -107,9 +114,24 @@ abbrev pub AreFilled : ImagesOf → Type 0
 AreFilled s = (image : ImageKind) → IfSome (filler_of s.fillers image)
     (λ root. (place : ℕ) → place < length (image_of s image) → HasByteOf root (image_of s image) place)
 
--- The ledger's history is legal and its state the one after it. The bytes are those of its stock.
+-- The ledger's history is legal and its state the one after it. The bytes are those of its stock. No write failed.
 pub record IsStore (l : LedgerOf) (blobs : List LookedAt) (drafts : List DraftOf) (images : ImagesOf) : Type 0 where
   pub holds : Agrees l
   pub stored : AreBytesOf blobs l.state.stock
   pub roomy : HaveRoom drafts l.history
   pub filled : AreFilled images
+  pub unbroken : l.state.broken ≡ None
+
+-- ---- replies
+
+-- why nothing arrives, though nothing failed
+abbrev pub IsRefusal : BeginEnd → Type 0
+IsRefusal begins.InRecovery = Unit {0}
+IsRefusal begins.NotFound = Unit {0}
+IsRefusal begins.ListingFault = Unit {0}
+IsRefusal reply = ⊥
+
+-- the reply tells this end
+abbrev pub IsBegunAs : BeginEnd → BeginReply → Type 0
+IsBegunAs end reply = (path : NameAndVariant) (choice : Choice) (number : ℕ) (e : Event)
+    → Looks (acts.Begin path choice end) e → IsBegun path choice reply number e

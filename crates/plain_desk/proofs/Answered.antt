@@ -1,0 +1,18 @@
+-- A call's event, as the call promises it at a desk.
+use Rattle.std.proofs.Common.{ℕ, List}
+use Rattle.pkg_names.specs.NameAndVariant.{NameAndVariant}
+use Rattle.pkg_names.specs.declared.root.Root.{Root}
+use Rattle.system_lists.specs.declared.fault.ManifestFile.{ManifestFile}
+use Rattle.system_lists.specs.declared.fault.ManifestFault.{ManifestFault}
+use Rattle.store_model.specs.declared.replies.CloseReply.{CloseReply}
+use Rattle.store_model.specs.declared.replies.CloseReply.TheVariants as close
+use Rattle.store_model.specs.declared.replies.RejectReply.{RejectReply}
+use Rattle.store_model.specs.declared.replies.RejectReply.TheVariants as reject
+use Rattle.store_model.specs.Desk.{View, Does}
+use Rattle.store_model.specs.Replies.{IsRejected}
+use Rattle.store_model.specs.Calls.{Rejects}
+
+pub rejects : (file : ManifestFile) (why : ManifestFault) (reply : RejectReply) (old new : View)
+    → Does old new (IsRejected file why reply) → Rejects file why reply old new
+rejects file why reject.NoMemory old new d = absurd d.its
+rejects file why reply old new d = d
