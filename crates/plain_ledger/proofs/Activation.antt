@@ -1,5 +1,5 @@
 -- What the judgement of a sealed system leaves.
-use Rattle.std.proofs.Common.{◌≡◌, ◌≤◌, ◌+◌, ℕ, true, false, List, [], ◌∷◌, length, Option, Some, None, refl, sym, ap, subst, arith, ◌∙◌}
+use Rattle.std.proofs.Common.{◌≡◌, ◌≤◌, ◌+◌, ℕ, true, false, List, length, Option, Some, None, refl, sym, ap, subst, arith, ◌∙◌}
 use Rattle.std.specs.Prelude.{IfSome}
 use Rattle.std.proofs.lemmas.Bool.{true≢false}
 use Rattle.abr_record.specs.declared.Record.{Record}
@@ -22,7 +22,7 @@ use Rattle.store_model.proofs.Frames.{keeps_next}
 use Rattle.plain_state.specs.Holdings.{ends_due, stage_ends}
 use Rattle.plain_state.specs.Learning.{IsSettled}
 use Rattle.plain_ledger.specs.Ledgers.{LedgerOf, IsLedger, Noted, Pushes}
-use Rattle.plain_ledger.proofs.Ledgers.{Came, Goes, came, here, seen_as}
+use Rattle.plain_ledger.proofs.Ledgers.{Came, came, here, seen_as}
 
 -- ---- as many ends are due as before
 
@@ -41,11 +41,11 @@ same_ends : (s : State) (lane : ℕ) (seen : List LookedAt) (reply : ActivateEnd
 same_ends s lane seen (activations.Active slot) = ends_at s lane seen slot s.stage refl
 same_ends s lane seen reply = refl
 
-pub activated : {o : Origin} {h : List Event} {spare : ℕ} {s s' : State} {n1 n2 : Noted} {old : LedgerOf} {lane : ℕ} {reply : ActivateEnd} {seen : List LookedAt}
+pub activated : {o : Origin} {h : List Event} {spare : ℕ} {s s2 : State} {n1 n2 : Noted} {old : LedgerOf} {lane : ℕ} {reply : ActivateEnd} {seen : List LookedAt}
     → seen_as o h s ≡ old → IsLedger o h spare s → n1.events ≡ h → ends_due s + 1 ≤ n1.spare → Pushes lane (acts.Activate reply seen) n1 n2
-    → IsDueActivate s lane seen reply → IsSeen seen s.stock → IsSettled seen (next_activate s lane seen reply) s'
-    → Came o n2 s' old lane (acts.Activate reply seen)
-activated {o} {h} {spare} {s} {s'} {n1} {n2} {old} {lane} {reply} {seen} view l same room pushed due is_seen settled =
+    → IsDueActivate s lane seen reply → IsSeen seen s.stock → IsSettled seen (next_activate s lane seen reply) s2
+    → Came o n2 s2 old lane (acts.Activate reply seen)
+activated {o} {h} {spare} {s} {s2} {n1} {n2} {old} {lane} {reply} {seen} view l same room pushed due is_seen settled =
     let k = keeps_next s (length h + 1) lane (acts.Activate reply seen) in
     came view l same pushed (record {
       later = refl;

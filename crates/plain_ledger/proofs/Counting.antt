@@ -1,8 +1,6 @@
 -- How many lanes hold, as one of them goes.
-use Rattle.std.proofs.Common.{◌≡◌, ◌≤◌, ◌+◌, suc, Bool, true, false, cond, not, List, [], ◌∷◌, length, filter, All, Option, Some, None, inl, inr, refl, subst, arith}
+use Rattle.std.proofs.Common.{◌≡◌, ◌≤◌, ◌+◌, suc, Bool, true, false, cond, not, List, [], ◌∷◌, length, filter, Option, Some, None, refl, arith}
 use Rattle.std.specs.Prelude.{find, IsSomeAnd}
-use Rattle.std.proofs.lemmas.Bool.{cases_Bool}
-use Rattle.std.proofs.lemmas.List.Elements.{All-head, All-tail}
 
 pub no_longer : {X : Type 0} (q : X → Bool) (xs : List X) → length (filter q xs) ≤ length xs
 no_longer q [] = omega arith
@@ -29,15 +27,3 @@ pub record Found (X : Type 0) (o : Option X) (P : X → Type 0) : Type 0 where
 pub found : {X : Type 0} (o : Option X) (P : X → Type 0) → IsSomeAnd o P → Found X o P
 found None P h = absurd h
 found (Some x) P h = record { it = x; is = refl; holds = h }
-
--- what is found passes the test, and what holds of each holds of it
-pub found_with : {X : Type 0} (p : X → Bool) (P : X → Type 0) (xs : List X) (x : X) → find p xs ≡ Some x → All P xs → (p x ≡ true) × P x
-found_with p P [] x is all = absurd (cc is)
-found_with p P (y ∷ ys) x is all =
-    elim (cases_Bool (p y)) [
-      | inl passes ↦
-          let here : Some y ≡ Some x = rw passes at is in
-          let same : y ≡ x = cc here in
-          subst (λ z. (p z ≡ true) × P z) same (passes, All-head P y ys all)
-      | inr lacks ↦ found_with p P ys x (rw lacks at is) (All-tail P y ys all)
-    ]

@@ -5,6 +5,7 @@ use Rattle.std.proofs.lemmas.List.Elements.{All-weaker}
 use Rattle.open_tracker.specs.declared.dirs.DirEntry.{DirEntry}
 use Rattle.store_model.specs.declared.events.Act.{Act}
 use Rattle.store_model.specs.declared.events.Event.{Event}
+use Rattle.store_model.specs.declared.events.LookedAt.{LookedAt}
 use Rattle.store_model.specs.State.{State, Arrival}
 use Rattle.store_model.specs.Lanes.{StandOnce}
 use Rattle.store_model.specs.Settling.{IsSeen}
@@ -91,6 +92,24 @@ came {o} {h} {spare} {s} {s2} {n1} {n2} {old} {lane} {act} view l same pushed g 
         holds = record { legal = holds.legal; mirrors = holds.mirrors };
       });
     }
+
+-- the event of an act that looks at nothing
+pub quietly : {o : Origin} {h : List Event} {spare : ℕ} {s s2 : State} {n1 n2 : Noted} {old : LedgerOf} {lane : ℕ} {act : Act}
+    → seen_as o h s ≡ old → IsLedger o h spare s → n1.events ≡ h → Pushes lane act n1 n2 → IsActDue old.state lane act
+    → is_boot act ≡ false → seen_by act ≡ [] → (next s (length h + 1) lane act).booted ≡ s.booted
+    → (next s (length h + 1) lane act).broken ≡ s.broken → IsSettled [] (next s (length h + 1) lane act) s2
+    → ends_due (next s (length h + 1) lane act) ≤ n2.spare → Came o n2 s2 old lane act
+quietly {h = h} {s = s} {s2 = s2} {lane = lane} {act = act} view l same pushed due later nothing booted broken settled enough =
+    let n : State = next s (length h + 1) lane act in
+    came view l same pushed (record {
+      later = later;
+      due = here (λ (t : State). IsActDue t lane act) view due;
+      seen = subst (λ (seen : List LookedAt). IsSeen seen n.stock) (sym nothing) tt;
+      settled = subst (λ (seen : List LookedAt). IsSettled seen n s2) (sym nothing) settled;
+      booted = booted;
+      broken = broken;
+      enough = enough;
+    })
 
 -- the number of the event, as the call took it
 pub numbered : {o : Origin} {h : List Event} {s : State} {old : LedgerOf} {number : ℕ} → seen_as o h s ≡ old

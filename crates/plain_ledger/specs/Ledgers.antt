@@ -42,6 +42,13 @@ pub record Agrees (l : LedgerOf) : Type 0 where
   pub legal : IsLegal l.origin l.history
   pub mirrors : Mirrors (after l.origin l.history) l.state
 
+-- The history is the one event of the boot, and this is the state after it.
+pub record Begins (from : Origin) (boot : Act) (s : State) (new : LedgerOf) : Type 0 where
+  pub origin : new.origin ≡ from
+  pub history : new.history ≡ event_by 0 boot ∷ []
+  pub state : new.state ≡ s
+  pub holds : Agrees new
+
 -- The lane's event of this act came, and was due.
 pub record Notes (old : LedgerOf) (lane : ℕ) (act : Act) (new : LedgerOf) : Type 0 where
   pub origin : new.origin ≡ old.origin

@@ -9,6 +9,7 @@ ghost use Rattle.store_model.specs.declared.events.LookedAt.{LookedAt as LookedA
 ghost use Rattle.plain_stock.specs.Contents.{AreBytesOf};
 ghost use Rattle.store_model.specs.Acts.LeftStage.{IsDueLeftStage};
 ghost use Rattle.store_model.specs.Acts.Stage.{stage_answer};
+ghost use Rattle.plain_state.specs.Judged.{IsReadAll};
 ghost use Rattle.plain_ledger.specs.Ledgers.{Notes, Stays};
 
 use crate::ledger::{Ledger, make_room};
@@ -60,7 +61,9 @@ impl Ledger {
     ) -> Result<ActivateEnd, AllocError>
         requires stage { IsStageOf self.old.state lane (Sealed sys) }
         requires bytes { AreBytesOf contents.now self.old.state.stock }
-        ensures ok { IfOk result (λ reply. (seen : List LookedAtOf) × Notes self.old lane (acts.Activate reply seen) self.new) }
+        ensures ok { IfOk result (λ reply. (seen : List LookedAtOf)
+            × Notes self.old lane (acts.Activate reply seen) self.new) }
+        ensures read { IfOk result IsReadAll }
         ensures err { OnErr result (Stays self.old self.new) }
     {
         make_room(&mut self.history, &self.state, 1)?;

@@ -28,26 +28,10 @@ use Rattle.plain_state.specs.Learning.{first_known, looked_at, Forgets, IsReady,
 use Rattle.plain_state.specs.Looking.{LearnsAll, roots_seen}
 use Rattle.plain_state.specs.Judged.{after_verdict}
 use Rattle.plain_state.proofs.Settled.{settles}
+use Rattle.plain_state.proofs.Seen.{seen_stored, seen_rooted}
 
 never : {P : Type 0} {b : Bool} → b ≡ true → b ≡ false → P
 never holds lacks = absurd (true≢false (sym holds ∙ lacks))
-
--- what was looked at is stored, and is among what is forgotten again
-pub seen_stored : (seen : List LookedAt) (stock : List Stored) (root : Root) → IsSeen seen stock → is_some (seen_bytes seen root) ≡ true → is_stored stock root ≡ true
-seen_stored [] stock root all found = absurd cc
-seen_stored (pair ∷ seen) stock root all found =
-    elim (cases_Bool (root_eq pair.root root)) [
-      | inl same ↦ ap (is_stored stock) (sym (root_eq-true pair.root root same)) ∙ ap (λ (o : Option ℕ). is_some o) all.1
-      | inr differs ↦ seen_stored seen stock root all.3 (rw differs at found)
-    ]
-
-pub seen_rooted : (seen : List LookedAt) (root : Root) → is_some (seen_bytes seen root) ≡ true → has_root (roots_seen seen) root ≡ true
-seen_rooted [] root found = absurd cc
-seen_rooted (pair ∷ seen) root found =
-    elim (cases_Bool (root_eq pair.root root)) [
-      | inl same ↦ or_left (root_eq pair.root root) (has_root (roots_seen seen) root) same
-      | inr differs ↦ or_right (root_eq pair.root root) (has_root (roots_seen seen) root) (seen_rooted seen root (rw differs at found))
-    ]
 
 -- an act that leaves the stock and what is protected, and looked at blobs that are stored
 pub settles_looked : (seen : List LookedAt) (t n new : State) → IsReady t → IsSeen seen t.stock → n.books ≡ t.books → n.stock ≡ t.stock → ((root : Root) → has_root (protected_in n) root ≡ has_root (protected_in t) root)
@@ -185,37 +169,3 @@ activated_by t u v w lane seen sys verdict reply h all stage learned is after an
     ∙ ap (λ (roots : List Root). cond (has_root (roots_seen seen) root && not (has_root roots root)) None (book_at v.books root)) among
     ∙ ap (λ (m : Option Meta). cond (has_root (roots_seen seen) root && not (has_root (protected_in t) root)) None m)
     (ap (λ (s : State). book_at s.books root) v_is ∙ learned.books root))
-
-none_both : (test : Bool) → cond test (let none : Option Meta = None in none) None ≡ None
-none_both true = refl
-none_both false = refl
-
--- and where it gave up
-pub restored : (t u w : State) (seen : List LookedAt) → IsReady t → IsSeen seen t.stock → LearnsAll seen t u → Forgets (roots_seen seen) u w → Mirrors t w
-restored t u w seen h all learned forgets = record {
-  rest = forgets.rest ∙ ap (λ (s : State). with_books s w.books) learned.rest;
-  books = λ root.
-      sym (forgets.books root
-      ∙ ap (λ (s : State). cond (has_root (roots_seen seen) root && not (has_root (protected_in s) root)) None (book_at u.books root)) learned.rest
-      ∙ ap (λ (m : Option Meta). cond (has_root (roots_seen seen) root && not (has_root (protected_in t) root)) None m) (learned.books root)
-      ∙ first root (book_at t.books root) refl (seen_bytes seen root) refl);
-} where
-  first : (root : Root) (known : Option Meta) → book_at t.books root ≡ known → (found : Option (List ℕ)) → seen_bytes seen root ≡ found
-      → cond (has_root (roots_seen seen) root && not (has_root (protected_in t) root)) None (first_known known (option_map Read found)) ≡ known
-  first root (Some meta) e found at =
-      let known : is_some (book_at t.books root) ≡ true = ap (λ (m : Option Meta). is_some m) e in
-      let stays : (has_root (roots_seen seen) root && not (has_root (protected_in t) root)) ≡ false =
-      and_right (has_root (roots_seen seen) root) (not (has_root (protected_in t) root)) (not_from_true (has_root (protected_in t) root) (h.books.among root known)) in
-      rw stays refl
-  first root None e None at = none_both (has_root (roots_seen seen) root && not (has_root (protected_in t) root))
-  first root None e (Some bytes) at =
-      let found : is_some (seen_bytes seen root) ≡ true = ap (λ (o : Option (List ℕ)). is_some o) at in
-      let unknown : is_some (book_at t.books root) ≡ false = ap (λ (m : Option Meta). is_some m) e in
-      let passed : has_root (protected_in t) root ≡ false =
-      elim (cases_Bool (has_root (protected_in t) root)) [
-        | inl among ↦ never (h.books.all root among (seen_stored seen t.stock root all found)) unknown
-        | inr passed ↦ passed
-      ] in
-      let goes : (has_root (roots_seen seen) root && not (has_root (protected_in t) root)) ≡ true =
-      and_from (has_root (roots_seen seen) root) (not (has_root (protected_in t) root)) (seen_rooted seen root found) (not_from_false (has_root (protected_in t) root) passed) in
-      rw goes refl

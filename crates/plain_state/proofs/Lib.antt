@@ -6,8 +6,11 @@ pub mod SettledActs
 pub mod SettledStill
 pub mod SettledLooks
 pub mod Ready
+pub mod Seen
 pub mod Looking
+pub mod Learned
 pub mod Hands
 pub mod Activating
 pub mod SeenPairs
 pub mod HoldingCounts
+pub mod Verdicts

@@ -23,7 +23,7 @@ use Rattle.plain_state.specs.Learning.{listed}
 append_has : (xs ys : List Root) (root : Root) → has_root (xs ++ ys) root ≡ (has_root xs root || has_root ys root)
 append_has xs ys root = list_any-append (λ other. root_eq other root) xs ys
 
-either_has : (xs ys : List Root) (root : Root) → has_root (xs ++ ys) root ≡ true → (has_root xs root ≡ true) ⊎ (has_root ys root ≡ true)
+pub either_has : (xs ys : List Root) (root : Root) → has_root (xs ++ ys) root ≡ true → (has_root xs root ≡ true) ⊎ (has_root ys root ≡ true)
 either_has xs ys root among = or_cases (has_root xs root) (has_root ys root) (sym (append_has xs ys root) ∙ among)
 
 pub left_has : (xs ys : List Root) (root : Root) → has_root xs root ≡ true → has_root (xs ++ ys) root ≡ true

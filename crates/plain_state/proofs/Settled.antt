@@ -27,7 +27,7 @@ first_thrice : (a b c : Option Meta) → first_known (first_known a b) c ≡ fir
 first_thrice None b c = refl
 first_thrice (Some meta) b c = refl
 
-first_of_some : (m other : Option Meta) → is_some m ≡ true → first_known m other ≡ m
+pub first_of_some : (m other : Option Meta) → is_some m ≡ true → first_known m other ≡ m
 first_of_some None other h = absurd cc
 first_of_some (Some meta) other h = refl
 

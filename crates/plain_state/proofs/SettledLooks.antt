@@ -38,10 +38,10 @@ some_of : (test : Bool) (m : Option Meta) → test ≡ true → cond test m None
 some_of true m e = refl
 some_of false m e = absurd (true≢false (sym e))
 
-is_read_if : (s : State) (root : Root) (len : ℕ) → stored_len s.stock root ≡ Some len → has_to_read s root ≡ (nat_le len META_LIMIT && not (is_some (book_at s.books root)))
+pub is_read_if : (s : State) (root : Root) (len : ℕ) → stored_len s.stock root ≡ Some len → has_to_read s root ≡ (nat_le len META_LIMIT && not (is_some (book_at s.books root)))
 is_read_if s root len at = rw at refl
 
-is_read_not : (s : State) (root : Root) → stored_len s.stock root ≡ None → has_to_read s root ≡ false
+pub is_read_not : (s : State) (root : Root) → stored_len s.stock root ≡ None → has_to_read s root ≡ false
 is_read_not s root at = rw at refl
 
 -- a stored package that isn't known is told of, where it was read if it had to be

@@ -1,5 +1,5 @@
 -- What the books of a state learn and forget, while all else of it stays; and when an event has settled them.
-use Rattle.std.specs.Prelude.{◌≡◌, ◌≢◌, ℕ, ◌&&◌, not, nat_lt, List, [], ◌∷◌, Option, Some, None, is_some, if◌then◌else◌}
+use Rattle.std.specs.Prelude.{◌≡◌, ◌≢◌, ℕ, ◌&&◌, not, nat_lt, true, false, List, [], ◌∷◌, Option, Some, None, is_some, if◌then◌else◌}
 use Rattle.std.specs.List.{AllPairs}
 use Rattle.std.specs.Option.{option_map}
 use Rattle.open_tracker.specs.declared.dirs.DirEntry.{DirEntry}
@@ -11,10 +11,11 @@ use Rattle.package_book.specs.Books.{Meta, Sets, book_at}
 use Rattle.package_book.specs.Books.Meta.{Read, Long}
 use Rattle.store_model.specs.declared.events.LookedAt.{LookedAt}
 use Rattle.store_model.specs.Mirrors.{Mirrors}
-use Rattle.store_model.specs.State.{State, Stored, Arrival, stored_len, has_root, protected_in}
+use Rattle.store_model.specs.State.{State, Stored, Arrival, stored_len, is_stored, has_root, protected_in}
 use Rattle.store_model.specs.Sound.{KnowsExactly}
 use Rattle.store_model.specs.Settling.{settle, HasLooked}
 use Rattle.store_model.specs.Systems.{seen_bytes}
+use Rattle.store_model.specs.Acts.Begin.{has_to_read}
 
 -- the first of two that is known
 abbrev pub first_known : Option Meta → Option Meta → Option Meta
@@ -63,6 +64,25 @@ told_at seen stock root = first_known (looked_at seen root) (long_of (stored_len
 
 abbrev pub told_of : List Root → List LookedAt → List Stored → Root → Option Meta
 told_of roots seen stock root = if has_root roots root then told_at seen stock root else None
+
+-- they learn the lengths of those of these packages that are stored and too long to be read
+pub record LearnsLengths (roots : List Root) (old new : State) : Type 0 where
+  pub rest : new ≡ record old { books = new.books }
+  pub books : (other : Root) → book_at new.books other ≡ first_known (book_at old.books other)
+      (if has_root roots other then long_of (stored_len old.stock other) else None)
+
+-- what they have learned is of these packages, and these are stored
+pub record LearnsAmong (roots : List Root) (old new : State) : Type 0 where
+  pub rest : new ≡ record old { books = new.books }
+  pub known : (other : Root) → is_some (book_at old.books other) ≡ true → book_at new.books other ≡ book_at old.books other
+  pub among : (other : Root) → is_some (book_at old.books other) ≡ false → is_some (book_at new.books other) ≡ true
+      → (has_root roots other && is_stored old.stock other) ≡ true
+
+-- they learn what an event that looked at these blobs tells of these packages, and it looked at those that had to be read
+pub record LearnsOf (roots : List Root) (seen : List LookedAt) (old new : State) : Type 0 where
+  pub rest : new ≡ record old { books = new.books }
+  pub books : (other : Root) → book_at new.books other ≡ first_known (book_at old.books other) (told_of roots seen old.stock other)
+  pub read : (root : Root) → has_root roots root ≡ true → has_to_read old root ≡ true → is_some (seen_bytes seen root) ≡ true
 
 -- what is read of a package that is to be learned, as the event tells it
 abbrev pub seen_of : Root → Option (List ℕ) → List LookedAt

@@ -6,3 +6,4 @@ pub mod Learning
 pub mod Looking
 pub mod Judged
 pub mod Holdings
+pub mod Booting

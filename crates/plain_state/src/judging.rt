@@ -1,14 +1,13 @@
 //! The judgement of systems, by what is stored.
 
-ghost use Rattle.std.specs.Prelude.{◌≡◌, ◌≢◌, [], true, find, not, is_some, IfOk, OnErr, option_copied};
+ghost use Rattle.std.specs.Prelude.{◌≡◌, ◌≢◌, [], find, is_some, IfOk, OnErr, option_copied};
 ghost use Rattle.pkg_names.specs.Root.{root_eq};
 ghost use Rattle.abr_record.specs.declared.Slot.TheVariants as slots;
-ghost use Rattle.package_book.specs.Names.{names};
 ghost use Rattle.store_model.specs.declared.events.LookedAt.{LookedAt as LookedAtOf};
 ghost use Rattle.store_model.specs.Mirrors.{Mirrors};
 ghost use Rattle.store_model.specs.Packages.{known_book};
 ghost use Rattle.store_model.specs.Settling.{IsSeen};
-ghost use Rattle.store_model.specs.State.{State as StateOf, IsStageOf, is_stored, has_root};
+ghost use Rattle.store_model.specs.State.{IsStageOf, has_root};
 ghost use Rattle.store_model.specs.State.Phase.{Sealed};
 ghost use Rattle.store_model.specs.Systems.{seen_bytes, staged_verdict};
 ghost use Rattle.store_model.specs.Acts.Activate.{IsAnswerTo, IsDueActivate, next_activate};
@@ -17,15 +16,15 @@ ghost use Rattle.system_lists.specs.Judging.{judged};
 ghost use Rattle.plain_stock.specs.Contents.{AreBytesOf};
 ghost use Rattle.plain_state.specs.Learning.{Forgets, IsReady, IsSettled};
 ghost use Rattle.plain_state.specs.Looking.{LearnsAll, AreFrom, roots_seen};
-ghost use Rattle.plain_state.specs.Judged.{outer_in, hand_of, after_verdict};
+ghost use Rattle.plain_state.specs.Judged.{outer_in, hand_of, after_verdict, IsJudged, IsReadAll};
 
 use crate::state::State;
 use crate::turns::{PhaseOf, Turn};
 use abr_record::{Slot, mark_active};
 use image_layout::Sys;
 use package_book::{Shelf, Shelved};
-use pkg_names::{FilePath, Items, Root, read_file};
-use plain_stock::{Contents, first_missing, is_book};
+use pkg_names::{FilePath, Items, Root};
+use plain_stock::{Contents, is_book};
 use std::alloc::AllocError;
 use store_model::{ActivateEnd, Looked, LookedAt};
 use system_judge::{Evidence, Judgement, judge};
@@ -37,12 +36,13 @@ pub struct Activation {
     pub seen: Looked,
 }
 
-// What the state has of a system, with the lists that were looked at. Of an update only what is retained counts.
+/// What the state has of a system, with the lists that were looked at. Where `retained` is set only what is
+/// retained counts.
 #[derive(Drop)]
-struct Hand<'a> {
-    state: &'a State,
-    seen: &'a [LookedAt],
-    retained: bool,
+pub struct Hand<'a> {
+    pub state: &'a State,
+    pub seen: &'a [LookedAt],
+    pub retained: bool,
 }
 
 impl<'a> Evidence for Hand<'a> {
@@ -63,7 +63,7 @@ impl<'a> Evidence for Hand<'a> {
     }
 
     fn first_missing(&self, root: &Root) -> Option<Root> {
-        self.state.first_absent(root)
+        self.state.first_missing(root)
     }
 
     fn outer(&self, root: &Root, file: &FilePath) -> Option<Root> {
@@ -115,13 +115,7 @@ impl State {
         is_book(&self.books, root)
     }
 
-    fn first_absent(&self, root: &Root) -> Option<Root>
-        ensures { result ≡ find (λ name. not (is_stored self.now.stock name)) (names root.now self.now.books) }
-    {
-        first_missing(&self.books, &self.stock, root)
-    }
-
-    fn outer_of(&self, root: &Root, file: &FilePath) -> Option<Root>
+    pub(crate) fn outer_of(&self, root: &Root, file: &FilePath) -> Option<Root>
         ensures { result ≡ outer_in (known_book self.now.books root.now) file.now }
     {
         outer_in(&self.books, root, file)
@@ -144,6 +138,7 @@ impl State {
         ensures seen { IfOk result (λ done. IsSeen done.seen self.old.stock) }
         ensures settled { IfOk result (λ done.
             IsSettled done.seen (next_activate self.old lane done.seen done.reply) self.new) }
+        ensures read { IfOk result (λ done. IsReadAll done.reply) }
         ensures err { OnErr result (Mirrors self.old self.new) }
     {
         let mut seen = Vec::new(self.alloc);
@@ -170,17 +165,19 @@ impl State {
         contents: &Contents,
         seen: &mut Vec<LookedAt>,
     ) -> Result<Judgement, AllocError>
-        requires { seen.old.items ≡ [] }
+        requires ready { IsReady self.old }
+        requires nothing { seen.old.items ≡ [] }
+        requires bytes { AreBytesOf contents.now self.old.stock }
         ensures learns { LearnsAll seen.new.items self.old self.new }
         ensures from { AreFrom contents.now seen.new.items }
         ensures verdict { IfOk result (λ found. verdict_of found ≡ staged_verdict self.old seen.new.items sys.now) }
+        ensures judged { IfOk result (λ found. IsJudged (verdict_of found)) }
     {
-        self.look_at_list(contents, &sys.system, b"data/static_packages", seen)?;
-        self.look_at_list(contents, &sys.system, b"data/cache_packages.json", seen)?;
+        self.look_at_lists(contents, &sys.system, seen)?;
         self.judged(seen, &sys.system, true)
     }
 
-    // Judges a system by what the books know, and the lists that were looked at.
+    // Judges the system with this package by what the books know and the lists that were looked at.
     fn judged(
         &self,
         seen: &[LookedAt],
@@ -197,36 +194,18 @@ impl State {
         judge(self.alloc, &hand, system)
     }
 
-    // Looks at the system package's file of this path, if it has one.
-    fn look_at_list(
-        &mut self,
-        contents: &Contents,
-        system: &Root,
-        path: &[u8],
-        seen: &mut Vec<LookedAt>,
-    ) -> Result<(), AllocError>
-        ensures learns { (t : StateOf) → LearnsAll seen.old.items t self.old → LearnsAll seen.new.items t self.new }
-        ensures from { AreFrom contents.now seen.old.items → AreFrom contents.now seen.new.items }
-    {
-        let Ok(file) = read_file(self.alloc, path) else {
-            return Err(AllocError);
-        };
-        match self.outer_of(system, &file) {
-            Some(root) => self.look(contents, root, seen),
-            None => Ok(()),
-        }
-    }
-
     // What a judgement makes of the sealed system.
     fn take_verdict(&mut self, lane: u32, sys: Sys, judgement: Judgement) -> ActivateEnd
-        requires { self.old.running ≢ slots.R }
+        requires running { self.old.running ≢ slots.R }
+        requires judged { IsJudged (verdict_of judgement) }
         ensures state { self.new ≡ after_verdict self.old lane sys (verdict_of judgement) }
         ensures answer { IsAnswerTo self.old (verdict_of judgement) result }
+        ensures read { IsReadAll result }
     {
         match judgement {
             Judgement::Missing(root) => ActivateEnd::BaseMissing { root },
             Judgement::Faulty(why) => ActivateEnd::NotASystem { why },
-            Judgement::Unread(_) => ActivateEnd::DiskRead,
+            Judgement::Unread(_) => unreachable!(),
             Judgement::Whole { base, .. } => {
                 let slot = self.other_slot();
                 self.abr = mark_active(&self.abr, slot);
@@ -245,8 +224,8 @@ impl State {
         }
     }
 
-    // The books forget what was looked at, but for what is protected.
-    fn forget_seen(&mut self, seen: &[LookedAt])
+    /// The books forget what was looked at, but for what is protected.
+    pub fn forget_seen(&mut self, seen: &[LookedAt])
         ensures { Forgets (roots_seen seen.now) self.old self.new }
     {
         for pair in seen {

@@ -2,6 +2,7 @@
 #![tactic(auto)]
 
 mod books;
+mod booting;
 mod changes;
 mod files;
 mod holdings;
@@ -10,13 +11,14 @@ mod laws;
 mod looks;
 mod marking;
 mod rest;
+mod retaining;
 mod room;
 mod settling;
 mod state;
 mod turns;
 
 pub use files::FileAt;
-pub use judging::Activation;
+pub use judging::{Activation, Hand};
 pub use laws::{
     collections_are_settled, openings_are_settled, still_acts_are_settled, stores_are_ready,
 };

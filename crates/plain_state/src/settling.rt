@@ -79,7 +79,7 @@ impl State {
         }
     }
 
-    fn learn_length(&mut self, root: Root) -> Result<(), AllocError>
+    pub(crate) fn learn_length(&mut self, root: Root) -> Result<(), AllocError>
         ensures ok { OnOk result (Learns root (long_of (stored_len self.old.stock root)) self.old self.new) }
         ensures err { OnErr result (self.new ≡ self.old) }
     {

@@ -173,7 +173,7 @@ impl State {
     }
 
     // The first blob of the package that isn't stored.
-    fn first_missing(&self, root: &Root) -> Option<Root>
+    pub(crate) fn first_missing(&self, root: &Root) -> Option<Root>
         ensures { result ≡ find (λ name. not (is_stored self.now.stock name)) (names root.now self.now.books) }
     {
         first_missing(&self.books, &self.stock, root)
@@ -282,16 +282,22 @@ impl State {
         self.running != Slot::R && !self.is_committed()
     }
 
+    /// The system that is sealed in a slot.
+    pub fn sys_of(&self, slot: Slot) -> Option<Sys>
+        ensures { result ≡ sys_of self.now slot }
+    {
+        match slot {
+            Slot::A => self.a,
+            Slot::B => self.b,
+            Slot::R => None,
+        }
+    }
+
     // The epoch of the running system.
     fn running_epoch(&self) -> u64
         ensures { result ≡ running_epoch self.now }
     {
-        let sys = match self.running {
-            Slot::A => self.a,
-            Slot::B => self.b,
-            Slot::R => None,
-        };
-        match sys {
+        match self.sys_of(self.running) {
             Some(sys) => sys.epoch,
             None => 0,
         }

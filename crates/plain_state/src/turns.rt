@@ -1,7 +1,9 @@
 //! Updates under way.
 
 ghost use Rattle.std.specs.Prelude.{◌≡◌};
+ghost use Rattle.plain_state.specs.Holdings.{sealed_at, sealed_in};
 
+use crate::state::State;
 use image_layout::Sys;
 use std::marker::Model;
 
@@ -34,5 +36,26 @@ impl Turn {
         ensures { result ≡ self.now.lane }
     {
         self.lane
+    }
+
+    fn sealed(&self) -> Option<Sys>
+        ensures { result ≡ sealed_at self.now.phase }
+    {
+        match self.phase {
+            PhaseOf::Sealed(sys) => Some(sys),
+            _ => None,
+        }
+    }
+}
+
+impl State {
+    /// The system that an update has sealed, until it is active.
+    pub fn sealed(&self) -> Option<Sys>
+        ensures { result ≡ sealed_in self.now.stage }
+    {
+        match &self.stage {
+            Some(stage) => stage.sealed(),
+            None => None,
+        }
     }
 }

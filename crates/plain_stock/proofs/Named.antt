@@ -1,7 +1,8 @@
 -- What is looked for among the names of a package is looked for at the package and among the roots that its
 -- book lists.
-use Rattle.std.proofs.Common.{◌≡◌, inl, inr, Bool, true, false, cond, not, ◌||◌, List, [], ◌∷◌, filter, Option, Some, None, is_some, refl, sym, ap, ◌∙◌}
-use Rattle.std.specs.Prelude.{find}
+use Rattle.std.proofs.Common.{◌≡◌, inl, inr, map, Bool, true, false, cond, not, ◌||◌, List, [], ◌∷◌, filter, Option, Some, None, is_some, refl, sym, ap, ◌∙◌}
+use Rattle.std.specs.Prelude.{find, option_and_then}
+use Rattle.std.specs.Str.{bytes_eq}
 use Rattle.std.specs.List.{list_any, list_all}
 use Rattle.std.proofs.lemmas.Bool.{cases_Bool}
 use Rattle.pkg_names.specs.declared.root.Root.{Root}
@@ -15,8 +16,8 @@ use Rattle.package_book.specs.declared.fault.PackageFault.{PackageFault}
 use Rattle.package_book.specs.declared.shelf.Shelved.TheVariants.{Good, Bad}
 use Rattle.package_book.specs.Shelf.{shelved_as, shelved_of}
 use Rattle.store_model.specs.State.{State, is_stored}
-use Rattle.store_model.specs.Packages.{known_book, is_complete}
-use Rattle.package_book.specs.Book.{MetaAndFiles, book, outer_roots, each_once}
+use Rattle.store_model.specs.Packages.{book_of, the_book, known_book, is_complete}
+use Rattle.package_book.specs.Book.{MetaAndFiles, book, outer_at, outer_roots, each_once}
 use Rattle.package_book.specs.Names.{names, roots_from, listed_roots, roots_known}
 
 past_filter : (p : Root → Bool) (x : Root) → p x ≡ false → (ys : List Root) → find p (filter (λ other. not (root_eq x other)) ys) ≡ find p ys
@@ -63,6 +64,38 @@ named_any p top books =
     ∙ ap (λ (found : Option Root). is_some found) (named_find p top books)
     ∙ some_cond (p top) top (find p (roots_known (book_at books top)))
     ∙ ap (λ rest. p top || rest) (sym (any_find p (roots_known (book_at books top))))
+
+-- where all that a package names passes, each file that its book lists does
+outer_fails : (p : Root → Bool) (path : List ℕ) (outer : List (List ℕ × Root)) (file : Root) → outer_at path outer ≡ Some file → find p (map (λ (pair : List ℕ × Root). pair.1) outer) ≡ None → p file ≡ false
+outer_fails p path [] file at none = absurd cc
+outer_fails p path (pair ∷ outer) file at none =
+    elim (cases_Bool (p pair.1)) [
+      | inl holds ↦ absurd (cc (rw holds at none))
+      | inr fails ↦ first fails (bytes_eq pair.0 path) at (λ later. outer_fails p path outer file later (rw fails at none))
+    ]
+  where
+    first : p pair.1 ≡ false → (test : Bool) → cond test (Some pair.1) (outer_at path outer) ≡ Some file → (outer_at path outer ≡ Some file → p file ≡ false) → p file ≡ false
+    first fails true same later = let is : pair.1 ≡ file = cc in ap p (sym is) ∙ fails
+    first fails false other later = later other
+
+known_roots : (meta : Option Meta) (found : MetaAndFiles) → option_and_then (λ m. the_book (book_of m)) meta ≡ Some found → roots_known meta ≡ outer_roots found.outer
+unfolding listed_roots
+known_roots None found h = absurd cc
+known_roots (Some (Long len)) found h = absurd cc
+known_roots (Some (Read bytes)) found h = first (book bytes) h where
+  first : (r : Result MetaAndFiles PackageFault) → the_book r ≡ Some found → roots_from r ≡ outer_roots found.outer
+  first (Ok other) h = let same : other ≡ found = cc in ap (λ (f : MetaAndFiles). outer_roots f.outer) same
+  first (Err fault) h = absurd cc
+
+pub outer_passes : (p : Root → Bool) (top : Root) (books : Books) (found : MetaAndFiles) (path : List ℕ) (file : Root) → known_book books top ≡ Some found → outer_at path found.outer ≡ Some file → find p (names top books) ≡ None → p file ≡ false
+outer_passes p top books found path file known at none =
+    outer_fails p path found.outer file at
+    (sym (find_once p (map (λ (pair : List ℕ × Root). pair.1) found.outer))
+    ∙ ap (find p) (sym (known_roots (book_at books top) found known))
+    ∙ past_top (p top) (sym (named_find p top books) ∙ none)) where
+      past_top : (test : Bool) → cond test (Some top) (find p (roots_known (book_at books top))) ≡ None → find p (roots_known (book_at books top)) ≡ None
+      past_top true h = absurd cc
+      past_top false h = h
 
 -- what a shelf has of a package tells the roots that its book lists
 pub good_roots : (meta : Option Meta) (found : MetaAndFiles) → option_map shelved_of meta ≡ Some (Good found) → roots_known meta ≡ outer_roots found.outer

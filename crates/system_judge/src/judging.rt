@@ -1,12 +1,14 @@
 //! The judgement of a system: its package, its two lists and the packages of its base.
 
-ghost use Rattle.std.specs.Prelude.{◌≡◌, ◌∷◌, [], not, find, is_some, option_copied, Some, None, IfOk, Ok, Err};
+ghost use Rattle.std.specs.Prelude.{◌≡◌, ◌∷◌, ◌++◌, [], map, not, find, is_some, option_copied, List, Result, Some, None, IfOk, OnOk, Ok, Err};
 ghost use Rattle.std.specs.Option.{option_map};
 ghost use Rattle.system_lists.specs.Judging.{AtHand, Verdict, judged, absent, no_book, missing_name, long_len, unread, unread_named, static_list, cached_list, base_faults, judged_lists, judged_files, first_of, system_path, text_of};
 ghost use Rattle.system_lists.specs.declared.fault.SystemFault.{SystemFault as SystemFaultOf};
+ghost use Rattle.pkg_names.specs.declared.pinned.Pinned.{Pinned as PinnedOf};
 ghost use Rattle.system_judge.specs.Judgement.{verdict_of, or_verdict, IsList};
+ghost use Rattle.system_judge.specs.Listed.{pairs_in, base_pairs, listed};
 
-use pkg_names::{FilePath, Items, PackagePath, Pinned, Root, read_file, read_path};
+use pkg_names::{FilePath, Items, PackagePath, Pinned, Root, Roots, read_file, read_path};
 use std::alloc::{AllocError, Global};
 use system_lists::{
     CachedFault, LIST_LIMIT, PinnedList, StaticFault, SystemFault, read_cached, read_static,
@@ -78,6 +80,67 @@ pub fn judge<E: Evidence>(
         Some(list) => judge_files(alloc, evidence, system, list, cached),
         None => Ok(Judgement::Faulty(SystemFault::NoStatic)),
     }
+}
+
+/// The packages that the two lists of the system name, first those of its base. A list that can't be read
+/// names none.
+pub fn listed<E: Evidence>(alloc: Global, evidence: &E, system: &Root) -> Result<Roots, AllocError>
+    ensures { IfOk result (λ roots. roots ≡ listed (E.at_hand evidence.now) system.now) }
+{
+    let list = list_of(alloc, evidence, system, b"data/static_packages")?;
+    let base = base_pairs(alloc, evidence, &list)?;
+    let list = list_of(alloc, evidence, system, b"data/cache_packages.json")?;
+    let cached = cached_pairs(alloc, evidence, &list)?;
+    let mut roots = Vec::new(alloc);
+    add_roots(&mut roots, base.as_slice())?;
+    add_roots(&mut roots, cached.as_slice())?;
+    Ok(Items::make(roots))
+}
+
+fn base_pairs<E: Evidence>(
+    alloc: Global,
+    evidence: &E,
+    root: &Option<Root>,
+) -> Result<PinnedList, AllocError>
+    ensures { IfOk result (λ pairs. pairs ≡ base_pairs (E.at_hand evidence.now) root.now) }
+{
+    let Some(root) = root else {
+        return Ok(Items::make(Vec::new(alloc)));
+    };
+    pairs_in(alloc, static_list(alloc, evidence, root))
+}
+
+fn cached_pairs<E: Evidence>(
+    alloc: Global,
+    evidence: &E,
+    root: &Option<Root>,
+) -> Result<PinnedList, AllocError>
+    ensures { IfOk result (λ pairs. pairs ≡ pairs_in (cached_list (E.at_hand evidence.now) root.now)) }
+{
+    pairs_in(alloc, cached_list(alloc, evidence, root))
+}
+
+// The pairs of a list, and none of one with a fault.
+fn pairs_in(
+    alloc: Global,
+    list: Result<PinnedList, Option<SystemFault>>,
+) -> Result<PinnedList, AllocError>
+    ensures { IfOk result (λ pairs. (read : Result (List PinnedOf) SystemFaultOf) → IsList read list → pairs ≡ pairs_in read) }
+{
+    match list {
+        Ok(pairs) => Ok(pairs),
+        Err(Some(_)) => Ok(Items::make(Vec::new(alloc))),
+        Err(None) => Err(AllocError),
+    }
+}
+
+fn add_roots(roots: &mut Vec<Root>, pairs: &[Pinned]) -> Result<(), AllocError>
+    ensures { OnOk result (roots.new.items ≡ roots.old.items ++ map (λ (pair : PinnedOf). pair.root) pairs.now) }
+{
+    for pair in pairs {
+        roots.push(pair.root)?;
+    }
+    Ok(())
 }
 
 // The root of the system package's file of this path.

@@ -3,4 +3,4 @@
 
 mod judging;
 
-pub use judging::{Evidence, Judgement, judge};
+pub use judging::{Evidence, Judgement, judge, listed};

@@ -6,7 +6,8 @@ use Rattle.store_model.specs.Acts.Activate.{IsDueActivate, next_activate}
 use Rattle.plain_state.specs.Learning.{Forgets, IsSettled}
 use Rattle.plain_state.specs.Looking.{roots_seen}
 use Rattle.plain_state.proofs.Looking.{seen_from}
-use Rattle.plain_state.proofs.Activating.{answered, activated_by, restored}
+use Rattle.plain_state.proofs.Activating.{answered, activated_by}
+use Rattle.plain_state.proofs.Learned.{restored}
 use Rattle.plain_state.proofs.state.State.activate.Goals as goal
 
 pub returns-in-Ok-clause-due : goal.returns-in-Ok-clause-due
