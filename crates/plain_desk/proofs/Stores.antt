@@ -246,9 +246,9 @@ told {old} {new} {lane} {act} n its stock claims = record {
 }
 
 -- what was so of the store that was seen is so of the store
-pub here : {l : LedgerOf} {drafts : List DraftOf} {images : ImagesOf} {was : StoreOf} (P : StoreOf → Type 0)
+pub here : (l : LedgerOf) {drafts : List DraftOf} {images : ImagesOf} {was : StoreOf} (P : StoreOf → Type 0)
     → store_of l drafts images ≡ was → P was → P (store_of l drafts images)
-here P is so = subst P (sym is) so
+here l P is so = subst P (sym is) so
 
 -- nothing was done
 pub still : {l : LedgerOf} → Agrees l → Stays l l

@@ -1,6 +1,6 @@
 //! Calls of a store on packages that are asked for.
 
-ghost use Rattle.std.specs.Prelude.{◌≡◌, List, ℕ, is_some, IfSome, IfOk, OnErr, length};
+ghost use Rattle.std.specs.Prelude.{◌≡◌, [], List, ℕ, is_some, IfSome, IfOk, OnErr, length};
 ghost use Rattle.pkg_merkle.specs.Merkle.{merkle_root};
 ghost use Rattle.store_model.specs.declared.ends.BeginEnd.TheVariants as begun;
 ghost use Rattle.store_model.specs.Desk.{Does, Keeps};

@@ -14,5 +14,5 @@ pub returns-clause-event : goal.returns-clause-event
 returns-clause-event c = λ tie. elim c.match-close.branch [
   | in-Ok-true w ↦ rw w.result-is (does (IsClosed c.args.dir.number close.Closed) c.self.view_is w.in-Ok-true.ensures.ok (ap (acts.Close c.args.dir.number) w.in-Ok-true.field-0-test, refl))
   | in-Ok-false w ↦ rw w.result-is (does (IsClosed c.args.dir.number close.BadDir) c.self.view_is w.in-Ok-false.ensures.ok (ap (acts.Close c.args.dir.number) w.in-Ok-false.field-0-test, refl))
-  | in-Err w ↦ rw w.result-is (rests c.self.view_is w.in-Err.ensures.err, not_open w.in-Err.ensures.err w.in-Err.ensures.open)
+  | in-Err w ↦ rw w.result-is (rests c.self.view_is w.in-Err.ensures.err, not_open c.args.dir.number c.args.lane w.in-Err.ensures.err w.in-Err.ensures.open)
 ]
