@@ -14,7 +14,7 @@ use Rattle.store_model.specs.declared.events.LookedAt.{LookedAt}
 use Rattle.store_model.specs.declared.replies.Ticket.{Ticket}
 use Rattle.store_model.specs.State.{State, Stored, Arrival, arrival_of, is_stored}
 use Rattle.store_model.specs.Step.{IsDue, next}
-use Rattle.store_model.specs.History.{Numbered, after, of_lane}
+use Rattle.store_model.specs.History.{Numbered, Origin, after, of_lane}
 use Rattle.store_model.specs.Footprints.{footprint_of}
 use Rattle.store_model.specs.Held.{HasHandles, IsTicketIn, claim_in}
 use Rattle.store_model.specs.Files.{found}
@@ -258,6 +258,18 @@ still {l} a = record {
   state = record { rest = refl; books = λ root. refl };
   holds = a;
 }
+
+-- a call that did nothing
+pub rests_still : {tie : List ℕ} {lane : ℕ} {l : LedgerOf} {fillers : Fillers} → Agrees l
+    → Rests (view_at tie lane l fillers) (view_at tie lane l fillers)
+rests_still {tie} {lane} {l} {fillers} a = rests_at tie lane fillers fillers (still a)
+
+-- what the desk saw it sees
+pub on_stays : {old new : LedgerOf} (P : State → Type 0) → Stays old new → P (after old.origin old.history)
+    → P (after new.origin new.history)
+on_stays {old} {new} P s so =
+    subst (λ (h : List Event). P (after new.origin h)) (sym s.history)
+    (subst (λ (o : Origin). P (after o old.history)) (sym s.origin) so)
 
 -- the desk sees that no write failed
 pub unbroken_at : {l : LedgerOf} → Agrees l → l.state.broken ≡ None → (after l.origin l.history).broken ≡ None

@@ -1,5 +1,5 @@
 -- A store, as contracts see it, and what a lane's desk at it is seen as.
-use Rattle.std.specs.Prelude.{◌≡◌, ◌≢◌, ◌<◌, ◌≤◌, ℕ, ◌==◌, List, [], ◌∷◌, ◌++◌, length, find, Option, Some, None, IfSome, if◌then◌else◌}
+use Rattle.std.specs.Prelude.{true, ◌≡◌, ◌≢◌, ◌<◌, ◌≤◌, ℕ, ◌==◌, List, [], ◌∷◌, ◌++◌, length, find, Option, Some, None, IfSome, if◌then◌else◌}
 use Rattle.image_layout.specs.declared.ImageKind.{ImageKind}
 use Rattle.image_layout.specs.declared.ImageKind.TheVariants as images
 use Rattle.store_model.specs.declared.events.Event.{Event}
@@ -10,7 +10,14 @@ use Rattle.store_model.specs.declared.events.Act.TheVariants as acts
 use Rattle.store_model.specs.declared.ends.BeginEnd.{BeginEnd}
 use Rattle.store_model.specs.declared.ends.BeginEnd.TheVariants as begins
 use Rattle.store_model.specs.declared.replies.BeginReply.{BeginReply}
-use Rattle.store_model.specs.Replies.{Looks, IsBegun}
+use Rattle.store_model.specs.declared.ends.ReadEnd.{ReadEnd}
+use Rattle.store_model.specs.declared.ends.CheckEnd.{CheckEnd}
+use Rattle.store_model.specs.declared.replies.ReadReply.{ReadReply}
+use Rattle.store_model.specs.declared.replies.CheckReply.{CheckReply}
+use Rattle.store_model.specs.State.{State, is_stored}
+use Rattle.store_model.specs.Files.{found}
+use Rattle.store_model.specs.Files.Found.{Outer}
+use Rattle.store_model.specs.Replies.{Acts, Looks, IsBegun, IsRead, IsChecked}
 use Rattle.store_model.specs.History.{Origin, of_lane}
 use Rattle.store_model.specs.Holding.{HeldClaim, held}
 use Rattle.pkg_names.specs.declared.root.Root.{Root}
@@ -135,3 +142,15 @@ IsRefusal reply = ⊥
 abbrev pub IsBegunAs : BeginEnd → BeginReply → Type 0
 IsBegunAs end reply = (path : NameAndVariant) (choice : Choice) (number : ℕ) (e : Event)
     → Looks (acts.Begin path choice end) e → IsBegun path choice reply number e
+
+abbrev pub IsReadAs : ReadEnd → ReadReply → Type 0
+IsReadAs end reply = (dir : ℕ) (file : List ℕ) (number : ℕ) (e : Event)
+    → Acts (acts.Read dir file end) e → IsRead dir file reply number e
+
+abbrev pub IsCheckedAs : CheckEnd → CheckReply → Type 0
+IsCheckedAs end reply = (dir : ℕ) (file : List ℕ) (number : ℕ) (e : Event)
+    → Acts (acts.Check dir file end) e → IsChecked dir file reply number e
+
+-- a file that is a blob of its own is stored
+abbrev pub IsFileThere : State → ℕ → ℕ → List ℕ → Type 0
+IsFileThere s lane dir file = (root : Root) → found s lane dir file ≡ Outer root → is_stored s.stock root ≡ true

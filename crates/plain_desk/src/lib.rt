@@ -4,4 +4,5 @@
 mod asking;
 mod drafts;
 mod images;
+mod reading;
 mod store;
