@@ -7,16 +7,37 @@ use Rattle.system_lists.specs.declared.fault.ManifestFault.{ManifestFault}
 use Rattle.package_indexes.specs.declared.Choice.{Choice}
 use Rattle.store_model.specs.declared.replies.BeginReply.{BeginReply}
 use Rattle.store_model.specs.declared.replies.BeginReply.TheVariants as begin
+use Rattle.store_model.specs.declared.replies.OpenReply.{OpenReply}
+use Rattle.store_model.specs.declared.replies.OpenReply.TheVariants as opening
+use Rattle.store_model.specs.declared.replies.ReadReply.{ReadReply}
+use Rattle.store_model.specs.declared.replies.ReadReply.TheVariants as read
+use Rattle.store_model.specs.declared.replies.CheckReply.{CheckReply}
+use Rattle.store_model.specs.declared.replies.CheckReply.TheVariants as check
 use Rattle.store_model.specs.declared.replies.RejectReply.{RejectReply}
 use Rattle.store_model.specs.declared.replies.RejectReply.TheVariants as reject
 use Rattle.store_model.specs.Desk.{View, Does}
-use Rattle.store_model.specs.Replies.{IsBegun, IsRejected}
-use Rattle.store_model.specs.Calls.{Begins, Rejects}
+use Rattle.store_model.specs.Replies.{IsBegun, IsOpened, IsRead, IsChecked, IsRejected}
+use Rattle.store_model.specs.Calls.{Begins, Opens, Reads, Checks, Rejects}
 
 pub begins : (path : NameAndVariant) (choice : Choice) (reply : BeginReply) (old new : View)
     → Does old new (IsBegun path choice reply) → Begins path choice reply old new
 begins path choice begin.NoMemory old new d = absurd d.its
 begins path choice reply old new d = d
+
+pub opens : (path : NameAndVariant) (reply : OpenReply) (old new : View)
+    → Does old new (IsOpened path reply) → Opens path reply old new
+opens path opening.NoMemory old new d = absurd d.its
+opens path reply old new d = d
+
+pub reads : (dir : ℕ) (file : List ℕ) (reply : ReadReply) (old new : View)
+    → Does old new (IsRead dir file reply) → Reads dir file reply old new
+reads dir file read.NoMemory old new d = absurd d.its
+reads dir file reply old new d = d
+
+pub checks : (dir : ℕ) (file : List ℕ) (reply : CheckReply) (old new : View)
+    → Does old new (IsChecked dir file reply) → Checks dir file reply old new
+checks dir file check.NoMemory old new d = absurd d.its
+checks dir file reply old new d = d
 
 pub rejects : (file : ManifestFile) (why : ManifestFault) (reply : RejectReply) (old new : View)
     → Does old new (IsRejected file why reply) → Rejects file why reply old new

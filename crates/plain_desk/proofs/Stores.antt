@@ -30,7 +30,7 @@ use Rattle.store_model.proofs.Holding.{holds_as_state}
 use Rattle.store_model.proofs.HoldingThere.{handles_there}
 use Rattle.plain_stock.specs.Contents.{AreBytesOf}
 use Rattle.plain_ledger.specs.Ledgers.{LedgerOf, Agrees, Notes, Stays, Tells, event_by, next_number}
-use Rattle.plain_desk.specs.Stores.{DraftOf, Drafted, ImagesOf, StoreOf, HaveRoom, IsStore, draft_of, room_in, len_of, room_of, view_of}
+use Rattle.plain_desk.specs.Stores.{DraftOf, Drafted, ImagesOf, StoreOf, HaveRoom, IsStore, draft_of, room_in, len_of, room_of, view_of, IsFileThere}
 
 -- the store with this ledger and these drafts and images
 abbrev pub store_of : LedgerOf → List DraftOf → ImagesOf → StoreOf
@@ -296,11 +296,11 @@ not_open {old} {new} dir lane s none =
 
 -- ---- files
 
--- a file that is a blob of its own is stored
-pub file_there : (l : LedgerOf) (lane dir : ℕ) (file : List ℕ) (root : Root) → Agrees l → found l.state lane dir file ≡ Outer root → is_stored l.state.stock root ≡ true
-file_there l lane dir file root a is =
+pub file_there : (l : LedgerOf) (lane dir : ℕ) (file : List ℕ) → Agrees l → IsFileThere l.state lane dir file
+file_there l lane dir file a = λ root is.
     let t : State = after l.origin l.history in
-    let same : found t lane dir file ≡ found l.state lane dir file = found_same t l.state.books a.mirrors.books lane dir file ∙ ap (λ (s : State). found s lane dir file) (sym a.mirrors.rest) in
+    let same : found t lane dir file ≡ found l.state lane dir file =
+    found_same t l.state.books a.mirrors.books lane dir file ∙ ap (λ (s : State). found s lane dir file) (sym a.mirrors.rest) in
     ap (λ (s : State). is_stored s.stock root) a.mirrors.rest ∙ files_there l.origin l.history a.legal lane dir file root (same ∙ is)
 
 -- ---- what a lane holds, in the state

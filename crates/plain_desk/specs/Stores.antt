@@ -14,7 +14,7 @@ use Rattle.store_model.specs.declared.ends.ReadEnd.{ReadEnd}
 use Rattle.store_model.specs.declared.ends.CheckEnd.{CheckEnd}
 use Rattle.store_model.specs.declared.replies.ReadReply.{ReadReply}
 use Rattle.store_model.specs.declared.replies.CheckReply.{CheckReply}
-use Rattle.store_model.specs.State.{State, is_stored}
+use Rattle.store_model.specs.State.{State, has_root, is_stored}
 use Rattle.store_model.specs.Files.{found}
 use Rattle.store_model.specs.Files.Found.{Outer}
 use Rattle.store_model.specs.Replies.{Acts, Looks, IsBegun, IsRead, IsChecked}
@@ -25,7 +25,9 @@ use Rattle.store_model.specs.Desk.{View, Fillers, Keeping, filler_of, with_fille
 use Rattle.store_model.specs.Desk.Keeping.{Blob, Image}
 use Rattle.store_model.specs.Calls.{HasByteOf}
 use Rattle.plain_stock.specs.Contents.{AreBytesOf}
-use Rattle.plain_ledger.specs.Ledgers.{LedgerOf, Agrees}
+use Rattle.store_model.specs.Systems.{seen_bytes}
+use Rattle.store_model.specs.declared.events.Act.{Act}
+use Rattle.plain_ledger.specs.Ledgers.{LedgerOf, Agrees, Notes, event_by, next_number}
 
 -- the room that a lane has for a blob, and the bytes that it has put there
 pub record DraftOf : Type 0 where
@@ -128,6 +130,18 @@ pub record IsStore (l : LedgerOf) (blobs : List LookedAt) (drafts : List DraftOf
   pub roomy : HaveRoom drafts l.history
   pub filled : AreFilled images
   pub unbroken : l.state.broken ≡ None
+
+-- these blobs have no bytes any more, and the others have theirs
+abbrev pub AreRemoved : List Root → List LookedAt → List LookedAt → Type 0
+AreRemoved roots old new =
+    (other : Root) → seen_bytes new other ≡ (if has_root roots other then None else seen_bytes old other)
+
+-- The lane's event came, of which this is so, and what is claimed stays.
+pub record Clears (lane : ℕ) (IsIts : ℕ → Event → Type 0) (old new : LedgerOf) : Type 0 where
+  pub act : Act
+  pub its : IsIts (next_number old) (event_by lane act)
+  pub notes : Notes old lane act new
+  pub claims : new.state.claims ≡ old.state.claims
 
 -- ---- replies
 

@@ -4,5 +4,6 @@
 mod asking;
 mod drafts;
 mod images;
+mod keeping;
 mod reading;
 mod store;
