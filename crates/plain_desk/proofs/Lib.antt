@@ -1,3 +1,5 @@
 pub mod Stores
 pub mod Answered
 pub mod Wants
+pub mod Blobs
+pub mod Drafting

@@ -6,6 +6,7 @@ use Rattle.fetch_queue.specs.declared.queue.ClaimEntry.{ClaimEntry}
 use Rattle.std.proofs.lemmas.Bool.{cases_Bool, eqb-true, true≢false}
 use Rattle.std.proofs.lemmas.List.Elements.{All-nil, All-push}
 use Rattle.pkg_names.specs.declared.root.Root.{Root}
+use Rattle.pkg_merkle.specs.declared.hasher.TheConstants.{BYTES_LIMIT}
 use Rattle.open_tracker.specs.Directories.{root_of}
 use Rattle.store_model.specs.declared.events.Act.{Act}
 use Rattle.store_model.specs.declared.events.Act.TheVariants as acts
@@ -30,7 +31,7 @@ use Rattle.store_model.proofs.Holding.{holds_as_state}
 use Rattle.store_model.proofs.HoldingThere.{handles_there}
 use Rattle.plain_stock.specs.Contents.{AreBytesOf}
 use Rattle.plain_ledger.specs.Ledgers.{LedgerOf, Agrees, Notes, Stays, Tells, event_by, next_number}
-use Rattle.plain_desk.specs.Stores.{DraftOf, Drafted, ImagesOf, StoreOf, HaveRoom, IsStore, draft_of, room_in, len_of, room_of, view_of, IsFileThere}
+use Rattle.plain_desk.specs.Stores.{Clears, DraftOf, Drafted, ImagesOf, StoreOf, HaveRoom, IsStore, draft_of, room_in, len_of, room_of, view_of, IsFileThere}
 
 -- the store with this ledger and these drafts and images
 abbrev pub store_of : LedgerOf → List DraftOf → ImagesOf → StoreOf
@@ -129,8 +130,8 @@ others_room old new lane act n other differs =
 
 -- the drafts after an event that gives its lane this room
 pub have_room : (old new : LedgerOf) (lane : ℕ) (act : Act) (drafts drafts' : List DraftOf) (room : ℕ) (bytes : List ℕ) → Notes old lane act new → HaveRoom drafts old.history → Drafted lane room bytes drafts drafts'
-    → room ≡ len_of (held_after_act (held (of_lane lane old.history)) (next_number old) lane act).claim → length bytes ≤ room → HaveRoom drafts' new.history
-have_room old new lane act drafts drafts' room bytes n had d is few = record {
+    → room ≡ len_of (held_after_act (held (of_lane lane old.history)) (next_number old) lane act).claim → length bytes ≤ room → room ≤ BYTES_LIMIT → HaveRoom drafts' new.history
+have_room old new lane act drafts drafts' room bytes n had d is few low = record {
   rooms = λ other. elim (cases_Bool (lane == other)) [
     | inl same ↦ d.rooms other ∙ ap (λ (t : Bool). cond t room (room_in drafts other)) same ∙ is ∙ sym (own_room old new lane act n) ∙ ap (λ (l : ℕ). room_of l new.history) (eqb-true lane other same)
     | inr differs ↦ d.rooms other ∙ ap (λ (t : Bool). cond t room (room_in drafts other)) differs ∙ had.rooms other ∙ sym (others_room old new lane act n other differs)
@@ -144,6 +145,14 @@ have_room old new lane act drafts drafts' room bytes n had d is few = record {
         let a : room_in drafts' other ≡ room_in drafts other = d.rooms other ∙ ap (λ (t : Bool). cond t room (room_in drafts other)) differs in
         let b : draft_of drafts' other ≡ draft_of drafts other = d.drafts other ∙ ap (λ (t : Bool). cond t bytes (draft_of drafts other)) differs in
         omega (arith, a, ap length b, had.enough other)
+  ];
+  short = λ other. elim (cases_Bool (lane == other)) [
+    | inl same ↦
+        let a : room_in drafts' other ≡ room = d.rooms other ∙ ap (λ (t : Bool). cond t room (room_in drafts other)) same in
+        omega (arith, a, low)
+    | inr differs ↦
+        let a : room_in drafts' other ≡ room_in drafts other = d.rooms other ∙ ap (λ (t : Bool). cond t room (room_in drafts other)) differs in
+        omega (arith, a, had.short other)
   ];
 }
 
@@ -169,7 +178,7 @@ pub moved : {old new : LedgerOf} {blobs : List LookedAt} {drafts : List DraftOf}
 moved {old} {new} {blobs} {drafts} {images} is m = record {
   holds = m.holds;
   stored = subst (λ (x : List Stored). AreBytesOf blobs x) (sym m.stock) is.stored;
-  roomy = record { rooms = λ lane. is.roomy.rooms lane ∙ sym (m.rooms lane); enough = is.roomy.enough };
+  roomy = record { rooms = λ lane. is.roomy.rooms lane ∙ sym (m.rooms lane); enough = is.roomy.enough; short = is.roomy.short };
   filled = is.filled;
   unbroken = m.broken ∙ is.unbroken;
 }
@@ -221,15 +230,21 @@ claim_there l lane a =
     (holds_as_state l.origin l.history lane a.legal).claim
     ∙ sym (ap (λ (s : State). map claim_in (filter (λ (claim : ClaimEntry). claim.lane == lane) s.claims)) a.mirrors.rest)
 
+-- the lanes have the rooms of the claims that the state has
+same_rooms : {old new : LedgerOf} → Agrees old → Agrees new → new.state.claims ≡ old.state.claims
+    → (other : ℕ) → room_of other new.history ≡ room_of other old.history
+same_rooms {old} {new} a b claims = λ other.
+    ap len_of (same_claim (held (of_lane other new.history)).claim (held (of_lane other old.history)).claim
+    (claim_there new other b
+    ∙ ap (λ (cs : List ClaimEntry). map claim_in (filter (λ (claim : ClaimEntry). claim.lane == other) cs)) claims
+    ∙ sym (claim_there old other a)))
+
 pub tells_moves : {old new : LedgerOf} {lane : ℕ} {IsIts : ℕ → Event → Type 0} → Agrees old → Tells lane IsIts old new
     → Moves old new
-tells_moves {old} {new} a t = record {
+tells_moves a t = record {
   holds = t.notes.holds;
   stock = t.stock;
-  rooms = λ other. ap len_of (same_claim (held (of_lane other new.history)).claim (held (of_lane other old.history)).claim
-      (claim_there new other t.notes.holds
-      ∙ ap (λ (cs : List ClaimEntry). map claim_in (filter (λ (claim : ClaimEntry). claim.lane == other) cs)) t.claims
-      ∙ sym (claim_there old other a)));
+  rooms = same_rooms a t.notes.holds t.claims;
   broken = notes_unbroken t.notes;
 }
 
@@ -286,6 +301,26 @@ pub answered : {A E : Type 0} {old new : LedgerOf} {blobs : List LookedAt} {draf
     → IfOk r (λ reply. Tells lane (IsIts reply) old new) → OnErr r (Stays old new) → IsStore new blobs drafts images
 answered lane IsIts (Ok a) is ok err = moved is (tells_moves is.holds ok)
 answered lane IsIts (Err e) is ok err = moved is (stays_moves err)
+
+-- blobs were removed
+pub cleared : {A E : Type 0} {old new : LedgerOf} {blobs blobs' : List LookedAt} {drafts : List DraftOf} {images : ImagesOf}
+    (lane : ℕ) (IsIts : A → ℕ → Event → Type 0) (r : Result A E) → IsStore old blobs drafts images
+    → IfOk r (λ reply. Clears lane (IsIts reply) old new) → OnErr r (Stays old new) → AreBytesOf blobs' new.state.stock
+    → IsStore new blobs' drafts images
+cleared lane IsIts (Ok a) is ok err bytes = record {
+  holds = ok.notes.holds;
+  stored = bytes;
+  roomy = record {
+    rooms = λ other. is.roomy.rooms other ∙ sym (same_rooms is.holds ok.notes.holds ok.claims other);
+    enough = is.roomy.enough;
+    short = is.roomy.short;
+  };
+  filled = is.filled;
+  unbroken = notes_unbroken ok.notes ∙ is.unbroken;
+}
+cleared lane IsIts (Err e) is ok err bytes =
+    let m = moved is (stays_moves err) in
+    record { holds = m.holds; stored = bytes; roomy = m.roomy; filled = m.filled; unbroken = m.unbroken }
 
 -- a directory that isn't open, as the desk sees it
 pub not_open : {old new : LedgerOf} (dir lane : ℕ) → Stays old new → root_of old.state.dirs dir lane ≡ None

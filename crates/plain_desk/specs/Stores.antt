@@ -1,7 +1,8 @@
 -- A store, as contracts see it, and what a lane's desk at it is seen as.
-use Rattle.std.specs.Prelude.{true, ◌≡◌, ◌≢◌, ◌<◌, ◌≤◌, ℕ, ◌==◌, List, [], ◌∷◌, ◌++◌, length, find, Option, Some, None, IfSome, if◌then◌else◌}
+use Rattle.std.specs.Prelude.{true, not, filter, ◌-◌, ◌&&◌, nat_le, ◌≡◌, ◌≢◌, ◌<◌, ◌≤◌, ℕ, ◌==◌, List, [], ◌∷◌, ◌++◌, length, find, Option, Some, None, IfSome, if◌then◌else◌}
 use Rattle.image_layout.specs.declared.ImageKind.{ImageKind}
 use Rattle.image_layout.specs.declared.ImageKind.TheVariants as images
+use Rattle.pkg_merkle.specs.declared.hasher.TheConstants.{BYTES_LIMIT}
 use Rattle.store_model.specs.declared.events.Event.{Event}
 use Rattle.store_model.specs.declared.events.LookedAt.{LookedAt}
 use Rattle.pkg_names.specs.NameAndVariant.{NameAndVariant}
@@ -59,14 +60,14 @@ view_of tie lane s = record {
   fillers = s.images.fillers;
 }
 
-abbrev draft_with : List DraftOf → ℕ → Option DraftOf
+abbrev pub draft_with : List DraftOf → ℕ → Option DraftOf
 draft_with drafts lane = find (λ (draft : DraftOf). draft.lane == lane) drafts
 
-abbrev bytes_in : Option DraftOf → List ℕ
+abbrev pub bytes_in : Option DraftOf → List ℕ
 bytes_in None = []
 bytes_in (Some draft) = draft.bytes
 
-abbrev len_in : Option DraftOf → ℕ
+abbrev pub len_in : Option DraftOf → ℕ
 len_in None = 0
 len_in (Some draft) = draft.room
 
@@ -77,6 +78,16 @@ draft_of drafts lane = bytes_in (draft_with drafts lane)
 -- the room that the lane has for them
 abbrev pub room_in : List DraftOf → ℕ → ℕ
 room_in drafts lane = len_in (draft_with drafts lane)
+
+-- these bytes come behind those of the draft, if it is the lane's and has room for them
+abbrev pub added : ℕ → List ℕ → DraftOf → DraftOf
+added lane bytes draft =
+    if (draft.lane == lane) && nat_le (length bytes) (draft.room - length draft.bytes)
+    then record draft { bytes = draft.bytes ++ bytes } else draft
+
+-- the drafts but the lane's
+abbrev pub without_draft : List DraftOf → ℕ → List DraftOf
+without_draft drafts lane = filter (λ (draft : DraftOf). not (draft.lane == lane)) drafts
 
 -- the new drafts are the old ones, but this lane has this room and these bytes
 pub record Drafted (lane room : ℕ) (bytes : List ℕ) (old new : List DraftOf) : Type 0 where
@@ -113,10 +124,11 @@ len_of (Some claim) = number_or_zero claim.len
 abbrev pub room_of : ℕ → List Event → ℕ
 room_of lane history = len_of (held (of_lane lane history)).claim
 
--- Each lane's draft has the room that was made for its claim, and no more bytes.
+-- Each lane's draft has the room that was made for its claim, and no more bytes. No room is larger than a blob may be.
 pub record HaveRoom (drafts : List DraftOf) (history : List Event) : Type 0 where
   pub rooms : (lane : ℕ) → room_in drafts lane ≡ room_of lane history
   pub enough : (lane : ℕ) → length (draft_of drafts lane) ≤ room_in drafts lane
+  pub short : (lane : ℕ) → room_in drafts lane ≤ BYTES_LIMIT
 
 -- an image with a filler is made of files with its root
 abbrev pub AreFilled : ImagesOf → Type 0
