@@ -1,0 +1,7 @@
+//! A store in memory, and a lane's desk at it.
+#![tactic(auto)]
+
+mod asking;
+mod drafts;
+mod images;
+mod store;
