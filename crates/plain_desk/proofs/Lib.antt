@@ -1,3 +1,4 @@
 pub mod Stores
 pub mod Answered
+pub mod Filled
 pub mod Wants

@@ -3,5 +3,6 @@
 
 mod asking;
 mod drafts;
+mod filling;
 mod images;
 mod store;
