@@ -3,6 +3,7 @@
 
 mod asking;
 mod drafts;
+mod filling;
 mod images;
 mod keeping;
 mod reading;
