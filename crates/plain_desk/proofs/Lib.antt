@@ -4,3 +4,4 @@ pub mod Filled
 pub mod Wants
 pub mod Blobs
 pub mod Drafting
+mod Opened

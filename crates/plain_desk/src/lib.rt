@@ -6,5 +6,9 @@ mod drafts;
 mod filling;
 mod images;
 mod keeping;
+mod opening;
 mod reading;
 mod store;
+
+pub use opening::Opening;
+pub use store::Store;
