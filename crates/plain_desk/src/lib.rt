@@ -3,6 +3,7 @@
 
 mod asking;
 mod drafts;
+mod fetching;
 mod images;
 mod keeping;
 mod reading;
