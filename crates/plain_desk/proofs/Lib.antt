@@ -3,3 +3,4 @@ pub mod Answered
 pub mod Wants
 pub mod Blobs
 pub mod Drafting
+pub mod Claims

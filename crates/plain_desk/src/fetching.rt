@@ -85,7 +85,8 @@ fn room(
     root: Root,
     len: u64,
 ) -> Result<Option<FetchEnd>, AllocError>
-    requires { IsSomeAnd (claim_of ledger.old.state.claims root) (IsRoomless lane) }
+    requires agrees { Agrees ledger.old }
+    requires claim { IsSomeAnd (claim_of ledger.old.state.claims root) (IsRoomless lane) }
     ensures ok { IfOk result (λ end. Notes ledger.old lane (acts.Room root len end) ledger.new) }
     ensures room { IfOk result (λ end. Drafted lane (room_after len end) [] drafts.old drafts.new) }
     ensures short { IfOk result (λ end. room_after len end ≤ BYTES_LIMIT) }
