@@ -11,9 +11,9 @@ use Rattle.store_model.proofs.LanesLasting.{left_len}
 use Rattle.plain_stock.specs.Contents.{AreBytesOf}
 use Rattle.plain_desk.specs.Stores.{AreRemoved}
 
-pub bytes_left : {roots : List Root} {old new : List LookedAt} {stock : List Stored} → AreBytesOf old stock
+pub bytes_left : (roots : List Root) {old new : List LookedAt} {stock : List Stored} → AreBytesOf old stock
     → AreRemoved roots old new → AreBytesOf new (without_blobs stock roots)
-bytes_left {roots} {old} {new} {stock} are gone = record {
+bytes_left roots {old} {new} {stock} are gone = record {
   lengths = λ root. elim (cases_Bool (has_root roots root)) [
     | inl goes ↦
         ap (option_map length) (gone root ∙ ap (λ b. cond b None (seen_bytes old root)) goes)

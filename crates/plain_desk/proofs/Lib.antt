@@ -1,7 +1,8 @@
-pub mod Stores
-pub mod Answered
-pub mod Filled
-pub mod Wants
-pub mod Blobs
-pub mod Drafting
 mod Opened
+pub mod Answered
+pub mod Blobs
+pub mod Claims
+pub mod Drafting
+pub mod Filled
+pub mod Stores
+pub mod Wants

@@ -128,33 +128,36 @@ others_room old new lane act n other differs =
     (of_lane-others other old.history (e ∷ [])
     (All-push (λ (x : Event). x.lane ≢ other) [] e (All-nil (λ (x : Event). x.lane ≢ other)) (λ (same : lane ≡ other). true≢false (sym (eq-eqb lane other same) ∙ differs))))
 
--- the drafts after an event that gives its lane this room
-pub have_room : (old new : LedgerOf) (lane : ℕ) (act : Act) (drafts drafts' : List DraftOf) (room : ℕ) (bytes : List ℕ) → Notes old lane act new → HaveRoom drafts old.history → Drafted lane room bytes drafts drafts'
-    → room ≡ len_of (held_after_act (held (of_lane lane old.history)) (next_number old) lane act).claim → length bytes ≤ room → room ≤ BYTES_LIMIT → HaveRoom drafts' new.history
-have_room old new lane act drafts drafts' room bytes n had d is few low = record {
+-- the drafts, where the lane has this room now
+have_room : {h h2 : List Event} {lane room : ℕ} {bytes : List ℕ} {drafts drafts' : List DraftOf} → HaveRoom drafts h
+    → Drafted lane room bytes drafts drafts' → room ≡ room_of lane h2
+    → ((other : ℕ) → (lane == other) ≡ false → room_of other h2 ≡ room_of other h)
+    → length bytes ≤ room → room ≤ BYTES_LIMIT → HaveRoom drafts' h2
+have_room {h} {h2} {lane} {room} {bytes} {drafts} {drafts'} had d is others few low = record {
   rooms = λ other. elim (cases_Bool (lane == other)) [
-    | inl same ↦ d.rooms other ∙ ap (λ (t : Bool). cond t room (room_in drafts other)) same ∙ is ∙ sym (own_room old new lane act n) ∙ ap (λ (l : ℕ). room_of l new.history) (eqb-true lane other same)
-    | inr differs ↦ d.rooms other ∙ ap (λ (t : Bool). cond t room (room_in drafts other)) differs ∙ had.rooms other ∙ sym (others_room old new lane act n other differs)
+    | inl same ↦ own other same ∙ is ∙ ap (λ (l : ℕ). room_of l h2) (eqb-true lane other same)
+    | inr differs ↦ kept other differs ∙ had.rooms other ∙ sym (others other differs)
   ];
   enough = λ other. elim (cases_Bool (lane == other)) [
     | inl same ↦
-        let a : room_in drafts' other ≡ room = d.rooms other ∙ ap (λ (t : Bool). cond t room (room_in drafts other)) same in
-        let b : draft_of drafts' other ≡ bytes = d.drafts other ∙ ap (λ (t : Bool). cond t bytes (draft_of drafts other)) same in
-        omega (arith, a, ap length b, few)
+        let b : draft_of drafts' other ≡ bytes =
+        d.drafts other ∙ ap (λ (t : Bool). cond t bytes (draft_of drafts other)) same in
+        omega (arith, own other same, ap length b, few)
     | inr differs ↦
-        let a : room_in drafts' other ≡ room_in drafts other = d.rooms other ∙ ap (λ (t : Bool). cond t room (room_in drafts other)) differs in
-        let b : draft_of drafts' other ≡ draft_of drafts other = d.drafts other ∙ ap (λ (t : Bool). cond t bytes (draft_of drafts other)) differs in
-        omega (arith, a, ap length b, had.enough other)
+        let b : draft_of drafts' other ≡ draft_of drafts other =
+        d.drafts other ∙ ap (λ (t : Bool). cond t bytes (draft_of drafts other)) differs in
+        omega (arith, kept other differs, ap length b, had.enough other)
   ];
   short = λ other. elim (cases_Bool (lane == other)) [
-    | inl same ↦
-        let a : room_in drafts' other ≡ room = d.rooms other ∙ ap (λ (t : Bool). cond t room (room_in drafts other)) same in
-        omega (arith, a, low)
-    | inr differs ↦
-        let a : room_in drafts' other ≡ room_in drafts other = d.rooms other ∙ ap (λ (t : Bool). cond t room (room_in drafts other)) differs in
-        omega (arith, a, had.short other)
+    | inl same ↦ omega (arith, own other same, low)
+    | inr differs ↦ omega (arith, kept other differs, had.short other)
   ];
-}
+} where
+  own : (other : ℕ) → (lane == other) ≡ true → room_in drafts' other ≡ room
+  own other same = d.rooms other ∙ ap (λ (t : Bool). cond t room (room_in drafts other)) same
+
+  kept : (other : ℕ) → (lane == other) ≡ false → room_in drafts' other ≡ room_in drafts other
+  kept other differs = d.rooms other ∙ ap (λ (t : Bool). cond t room (room_in drafts other)) differs
 
 none_left : (xs : List ℕ) → length xs ≤ 0 → xs ≡ []
 none_left [] few = refl
@@ -286,6 +289,9 @@ on_stays {old} {new} P s so =
     subst (λ (h : List Event). P (after new.origin h)) (sym s.history)
     (subst (λ (o : Origin). P (after o old.history)) (sym s.origin) so)
 
+pub same_stays : {old new : LedgerOf} → new ≡ old → Agrees old → Stays old new
+same_stays {old} {new} same a = subst (λ (l : LedgerOf). Stays old l) (sym same) (still a)
+
 -- the desk sees that no write failed
 pub unbroken_at : {l : LedgerOf} → Agrees l → l.state.broken ≡ None → (after l.origin l.history).broken ≡ None
 unbroken_at {l} a none = sym (ap (λ (s : State). s.broken) a.mirrors.rest) ∙ none
@@ -321,6 +327,42 @@ cleared lane IsIts (Ok a) is ok err bytes = record {
 cleared lane IsIts (Err e) is ok err bytes =
     let m = moved is (stays_moves err) in
     record { holds = m.holds; stored = bytes; roomy = m.roomy; filled = m.filled; unbroken = m.unbroken }
+
+-- an event that gives its lane this room
+pub drafted : {old new : LedgerOf} {lane room : ℕ} {bytes : List ℕ} {act : Act} {blobs blobs' : List LookedAt}
+    {drafts drafts' : List DraftOf} {images : ImagesOf} → IsStore old blobs drafts images → Notes old lane act new
+    → AreBytesOf blobs' new.state.stock → Drafted lane room bytes drafts drafts'
+    → room ≡ len_of (held_after_act (held (of_lane lane old.history)) (next_number old) lane act).claim
+    → length bytes ≤ room → room ≤ BYTES_LIMIT → IsStore new blobs' drafts' images
+drafted {old} {new} {lane} {room} {bytes} {act} is n stored d room_is few low = record {
+  holds = n.holds;
+  stored = stored;
+  roomy = have_room is.roomy d (room_is ∙ sym (own_room old new lane act n)) (others_room old new lane act n) few low;
+  filled = is.filled;
+  unbroken = notes_unbroken n ∙ is.unbroken;
+}
+
+-- nothing came, and the lane has this room
+pub drafted_still : {old new : LedgerOf} {lane room : ℕ} {bytes : List ℕ} {blobs : List LookedAt}
+    {drafts drafts' : List DraftOf} {images : ImagesOf} → IsStore old blobs drafts images → Stays old new
+    → Drafted lane room bytes drafts drafts' → room ≡ room_of lane old.history
+    → length bytes ≤ room → room ≤ BYTES_LIMIT → IsStore new blobs drafts' images
+drafted_still {old} {new} {lane} {room} {bytes} is s d room_is few low =
+    let m = moved is (stays_moves s) in
+    record {
+      holds = m.holds;
+      stored = m.stored;
+      roomy = have_room is.roomy d (room_is ∙ sym (ap (room_of lane) s.history)) (λ other differs. ap (room_of other) s.history) few low;
+      filled = m.filled;
+      unbroken = m.unbroken;
+    }
+
+-- the bytes of what is stored, after an event that leaves the stock
+pub bytes_stay : {old new : LedgerOf} {lane : ℕ} {act : Act} {blobs : List LookedAt} → AreBytesOf blobs old.state.stock
+    → Notes old lane act new → (footprint_of act).stock ≡ false → AreBytesOf blobs new.state.stock
+bytes_stay {old} {new} {lane} {act} {blobs} are n kept =
+    subst (λ (x : List Stored). AreBytesOf blobs x)
+    (sym (ap (λ (s : State). s.stock) n.state.rest ∙ (keeps_next old.state (next_number old) lane act).stock kept)) are
 
 -- a directory that isn't open, as the desk sees it
 pub not_open : {old new : LedgerOf} (dir lane : ℕ) → Stays old new → root_of old.state.dirs dir lane ≡ None

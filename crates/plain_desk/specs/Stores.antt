@@ -1,5 +1,5 @@
 -- A store, as contracts see it, and what a lane's desk at it is seen as.
-use Rattle.std.specs.Prelude.{true, not, filter, ◌-◌, ◌&&◌, nat_le, ◌≡◌, ◌≢◌, ◌<◌, ◌≤◌, ℕ, ◌==◌, List, [], ◌∷◌, ◌++◌, length, find, Option, Some, None, IfSome, if◌then◌else◌}
+use Rattle.std.specs.Prelude.{true, false, ◌⊎◌, not, filter, ◌-◌, ◌&&◌, nat_le, ◌≡◌, ◌≢◌, ◌<◌, ◌≤◌, ℕ, ◌==◌, List, [], ◌∷◌, ◌++◌, length, find, Option, Some, None, IfSome, if◌then◌else◌}
 use Rattle.image_layout.specs.declared.ImageKind.{ImageKind}
 use Rattle.image_layout.specs.declared.ImageKind.TheVariants as images
 use Rattle.pkg_merkle.specs.declared.hasher.TheConstants.{BYTES_LIMIT}
@@ -8,6 +8,10 @@ use Rattle.store_model.specs.declared.events.LookedAt.{LookedAt}
 use Rattle.pkg_names.specs.NameAndVariant.{NameAndVariant}
 use Rattle.package_indexes.specs.declared.Choice.{Choice}
 use Rattle.store_model.specs.declared.events.Act.TheVariants as acts
+use Rattle.pkg_names.specs.Root.{root_eq}
+use Rattle.pkg_merkle.specs.Merkle.{merkle_root}
+use Rattle.fetch_queue.specs.declared.FetchEnd.{FetchEnd}
+use Rattle.fetch_queue.specs.declared.FetchEnd.TheVariants as ends
 use Rattle.store_model.specs.declared.ends.BeginEnd.{BeginEnd}
 use Rattle.store_model.specs.declared.ends.BeginEnd.TheVariants as begins
 use Rattle.store_model.specs.declared.replies.BeginReply.{BeginReply}
@@ -154,6 +158,24 @@ pub record Clears (lane : ℕ) (IsIts : ℕ → Event → Type 0) (old new : Led
   pub its : IsIts (next_number old) (event_by lane act)
   pub notes : Notes old lane act new
   pub claims : new.state.claims ≡ old.state.claims
+
+-- the room that a lane has once it has asked for it
+abbrev pub room_after : ℕ → Option FetchEnd → ℕ
+room_after len None = len
+room_after len (Some end) = 0
+
+-- too few bytes, or others
+abbrev pub IsLandingEnd : Root → ℕ → List ℕ → FetchEnd → Type 0
+IsLandingEnd root len bytes (ends.Short have) = (have ≡ length bytes) × (length bytes < len)
+IsLandingEnd root len bytes (ends.Wrong got) =
+    (length bytes ≡ len) × (merkle_root bytes ≡ got) × (root_eq root got ≡ false)
+IsLandingEnd root len bytes end = ⊥
+
+-- The lane's claimed blob was stored. If something was looked at, it was the blob.
+pub record HasLanded (lane : ℕ) (root : Root) (bytes : List ℕ) (old new : LedgerOf) : Type 0 where
+  pub seen : List LookedAt
+  pub notes : Notes old lane (acts.Land root (length bytes) None seen) new
+  pub carries : (seen ≡ []) ⊎ (seen ≡ record { root = root; bytes = bytes } ∷ [])
 
 -- ---- replies
 
