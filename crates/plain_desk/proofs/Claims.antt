@@ -5,18 +5,22 @@ use Rattle.std.specs.Option.{option_map}
 use Rattle.pkg_names.specs.declared.root.Root.{Root}
 use Rattle.pkg_merkle.specs.declared.hasher.TheConstants.{BYTES_LIMIT}
 use Rattle.fetch_queue.specs.declared.FetchEnd.{FetchEnd}
+use Rattle.fetch_queue.specs.declared.FetchEnd.TheVariants as ends
 use Rattle.fetch_queue.specs.declared.queue.ClaimEntry.{ClaimEntry}
 use Rattle.store_model.specs.declared.events.Act.TheVariants as acts
 use Rattle.store_model.specs.declared.events.LookedAt.{LookedAt}
-use Rattle.store_model.specs.State.{claim_of}
+use Rattle.store_model.specs.State.{State, claim_of, is_stored}
 use Rattle.store_model.specs.History.{of_lane}
 use Rattle.store_model.specs.Holding.{Held, HeldClaim, held, held_after_act, with_len}
 use Rattle.store_model.specs.Acts.Room.{IsRoomless}
 use Rattle.store_model.specs.Acts.Put.{IsRoomOf}
 use Rattle.store_model.specs.Acts.Missed.{IsDueMissed}
+use Rattle.store_model.specs.Acts.Land.{IsLanding}
+use Rattle.store_model.specs.Lanes.{AreClaims}
+use Rattle.store_model.proofs.LanesOnce.{claimed_missing, stand_once}
 use Rattle.store_model.proofs.HoldingThere.{in_some}
 use Rattle.plain_ledger.specs.Ledgers.{LedgerOf, Agrees, Notes, Stays, next_number}
-use Rattle.plain_desk.specs.Stores.{DraftOf, Drafted, HaveRoom, ImagesOf, IsStore, draft_of, len_of, room_after, room_in}
+use Rattle.plain_desk.specs.Stores.{DraftOf, Drafted, HaveRoom, ImagesOf, IsLandingEnd, IsStore, draft_of, len_of, room_after, room_in}
 use Rattle.plain_desk.proofs.Stores.{bytes_stay, drafted, drafted_still, handles, same_stays}
 
 -- the lane's claim
@@ -72,3 +76,15 @@ put_made {old} lane root piece {blobs} {drafts} None is same fits d =
     (omega (arith, fits, length-append (draft_of drafts lane) piece)) (is.roomy.short lane)
 put_made lane root piece (Some end) is notes over d =
     drafted is notes (bytes_stay is.stored notes refl) d refl (omega arith) (omega arith)
+
+-- a claimed blob isn't stored
+pub unstored : (l : LedgerOf) (root : Root) {P : ClaimEntry → Type 0} → Agrees l → IsSomeAnd (claim_of l.state.claims root) P
+    → is_stored l.state.stock root ≡ false
+unstored l root {P} a due = claimed_missing l.state root P (claim_of l.state.claims root) refl due
+    (subst (λ (s : State). AreClaims s.claims s.stock) (sym a.mirrors.rest) (stand_once l.origin l.history a.legal).claims)
+
+-- why a landing ends, as the model has it
+pub landing_due : (root : Root) (len : ℕ) (bytes : List ℕ) (end : FetchEnd) → IsLandingEnd root len bytes end → IsLanding root len (Some end)
+landing_due root len bytes (ends.Short have) is = subst (λ (n : ℕ). n < len) (sym is.0) is.1
+landing_due root len bytes (ends.Wrong got) is = is.2
+landing_due root len bytes end is = absurd is

@@ -177,6 +177,13 @@ pub record HasLanded (lane : ℕ) (root : Root) (bytes : List ℕ) (old new : Le
   pub notes : Notes old lane (acts.Land root (length bytes) None seen) new
   pub carries : (seen ≡ []) ⊎ (seen ≡ record { root = root; bytes = bytes } ∷ [])
 
+-- the lane's bytes, in this room, were stored, or were too few or others
+abbrev pub IsLandedAs : ℕ → Root → ℕ → List ℕ → Option FetchEnd → LedgerOf → LedgerOf → Type 0
+IsLandedAs lane root len bytes None old new =
+    (length bytes ≡ len) × (merkle_root bytes ≡ root) × HasLanded lane root bytes old new
+IsLandedAs lane root len bytes (Some end) old new =
+    IsLandingEnd root len bytes end × Notes old lane (acts.Land root len (Some end) []) new
+
 -- ---- replies
 
 -- why nothing arrives, though nothing failed
