@@ -5,7 +5,7 @@ use Rattle.std.specs.Option.{option_map}
 use Rattle.std.proofs.lemmas.Bool.{cases_Bool}
 use Rattle.pkg_names.specs.declared.root.Root.{Root}
 use Rattle.pkg_names.specs.Root.{root_eq}
-use Rattle.pkg_names.proofs.Root.{root_eq-true}
+use Rattle.pkg_names.proofs.Roots.{root_eq-true}
 use Rattle.pkg_merkle.specs.Merkle.{merkle_root}
 use Rattle.store_model.specs.declared.events.LookedAt.{LookedAt}
 use Rattle.store_model.specs.State.{Stored, has_root, is_stored, stored_len, without_blobs}

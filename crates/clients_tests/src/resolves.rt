@@ -1,0 +1,3 @@
+use crate::shop::Shop;
+use crate::stores::store_of;
+use std::test::Fail;
