@@ -4,3 +4,4 @@ pub mod Wants
 pub mod Blobs
 pub mod Drafting
 pub mod Claims
+pub mod Landing
