@@ -1,7 +1,10 @@
 use Rattle.std.proofs.Common.{[], refl, sym, subst}
-use Rattle.store_model.specs.Calls.{HoldsRoom, Lands}
-use Rattle.store_model.specs.declared.replies.LandReply.{LandReply}
-use Rattle.plain_desk.specs.Stores.{StoreOf, kept_for, view_of}
+use Rattle.store_model.specs.Calls.{HoldsRoom, room_by}
+use Rattle.store_model.specs.Desk.{Does}
+use Rattle.store_model.specs.Replies.{IsLanded}
+use Rattle.store_model.specs.declared.replies.LandReply.TheVariants as land
+use Rattle.fetch_queue.specs.declared.FetchEnd.{FetchEnd}
+use Rattle.plain_desk.specs.Stores.{StoreOf, view_of}
 use Rattle.plain_desk.proofs.Stores.{here, rests, view_at}
 use Rattle.plain_desk.proofs.Claims.{has_room}
 use Rattle.plain_desk.proofs.Landing.{land_made, landed, landing_ended, stored_as}
@@ -23,8 +26,8 @@ returns-clause-event c = λ tie. elim c.match-land.branch [
       rw w.result-is (landed c.args.claim.root c.self.view_is c.self.invariant.roomy h.0 h.2)
   | in-Ok-Some w ↦
       let h = stored_as c.args.lane c.args.claim.root _ _ c.self.inside.ledger c.land.new.ledger w.in-Ok-Some.field-0-is w.in-Ok-Some.ensures.ok in
-      subst (λ (reply : LandReply). Lands c.args.claim (kept_for c.args.lane c.args.self.now) reply (view_of tie c.args.lane c.args.self.now)
-      (view_at tie c.args.lane c.land.new.ledger c.self.inside.images.fillers)) (sym w.result-is)
-      (landing_ended c.args.claim.root w.in-Ok-Some.end c.self.view_is c.self.invariant.roomy h.1)
+      rw w.result-is (subst (λ (end : FetchEnd). Does (view_of tie c.args.lane c.args.self.now) (view_at tie c.args.lane c.land.new.ledger c.self.inside.images.fillers)
+      (IsLanded c.args.claim.root (room_by (view_of tie c.args.lane c.args.self.now)) (land.Ended end))) (sym w.in-Ok-Some.end-is)
+      (landing_ended c.args.claim.root w.in-Ok-Some.end c.self.view_is c.self.invariant.roomy h.1))
   | in-Err w ↦ rw w.result-is (rests c.self.view_is w.in-Err.ensures.err, refl)
 ]
