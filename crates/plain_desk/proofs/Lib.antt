@@ -1,7 +1,8 @@
-pub mod Stores
 pub mod Answered
-pub mod Wants
 pub mod Blobs
-pub mod Drafting
 pub mod Claims
+pub mod Drafting
+pub mod Filled
 pub mod Landing
+pub mod Stores
+pub mod Wants

@@ -1,1 +1,4 @@
+pub mod Filling
 pub mod Stores
+pub mod Opening
+pub mod Putting

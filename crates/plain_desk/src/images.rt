@@ -1,16 +1,17 @@
 //! The images of the slot that an update fills.
 
-ghost use Rattle.std.specs.Prelude.{◌≡◌, [], None, length, IfOk, OnErr};
+ghost use Rattle.std.specs.Prelude.{◌≡◌, [], None, length, IfOk, MatchOption, OnErr};
 ghost use Rattle.image_layout.specs.Sums.{image_sum};
 ghost use Rattle.store_model.specs.Desk.{filler_after};
+ghost use Rattle.plain_desk.specs.Filling.{HaveSums, IsDifference};
 ghost use Rattle.plain_desk.specs.Stores.{IsAppended, image_of};
 
 use image_layout::{ImageKind, ImageSum, Sys};
 use pkg_names::Root;
 use sha2::{Digest, Sha256};
 use std::alloc::{AllocError, Global};
-use store_model::Difference;
 use std::marker::Model;
+use store_model::Difference;
 
 /// The bytes of the two images, and the files that alone have filled them.
 #[derive(Drop)]
@@ -66,7 +67,12 @@ impl Images {
     }
 
     /// A part of the file with this root comes behind the bytes of an image. Tells how many it has then.
-    pub(crate) fn append(&mut self, image: ImageKind, root: Root, part: &[u8]) -> Result<usize, AllocError>
+    pub(crate) fn append(
+        &mut self,
+        image: ImageKind,
+        root: Root,
+        part: &[u8],
+    ) -> Result<usize, AllocError>
         ensures ok { IfOk result (λ have. (have ≡ length (image_of self.new image))
             × IsAppended image root part.now self.old self.new) }
         ensures err { OnErr result (self.new ≡ self.old) }
@@ -88,7 +94,9 @@ impl Images {
     }
 
     /// The first image that isn't the system's.
-    pub(crate) fn difference(&self, sys: &Sys) -> Option<Difference> {
+    pub(crate) fn difference(&self, sys: &Sys) -> Option<Difference>
+        ensures { MatchOption result (HaveSums sys.now self.now) (IsDifference sys.now self.now) }
+    {
         let zbi = sum_of(&self.zbi);
         if zbi != sys.zbi {
             return Some(Difference {

@@ -4,7 +4,14 @@
 mod asking;
 mod drafts;
 mod fetching;
+mod filling;
 mod images;
 mod keeping;
+mod opening;
 mod reading;
 mod store;
+mod stored;
+
+pub use opening::Opening;
+pub use store::Store;
+pub use stored::StoredBlobs;

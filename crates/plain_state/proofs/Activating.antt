@@ -1,11 +1,9 @@
 -- The activation of a sealed system leaves the books settled, once they have forgotten what was looked at.
-use Rattle.std.proofs.Common.{◌≡◌, ℕ, Bool, true, false, cond, not, ◌&&◌, List, [], ◌∷◌, Option, Some, None, is_some, inl, inr, refl, sym, ap, subst, ◌∙◌}
+use Rattle.std.proofs.Common.{◌≡◌, ℕ, Bool, true, false, cond, not, ◌&&◌, List, Option, Some, None, is_some, inl, inr, refl, sym, ap, subst, ◌∙◌}
 use Rattle.std.specs.Option.{option_map}
-use Rattle.std.proofs.lemmas.Bool.{cases_Bool, true≢false, or_left, or_right, and_from, and_right, not_from_true, not_from_false}
+use Rattle.std.proofs.lemmas.Bool.{cases_Bool, true≢false, and_from, not_from_false}
 use Rattle.pkg_names.specs.declared.root.Root.{Root}
 use Rattle.pkg_names.specs.declared.pinned.Pinned.{Pinned}
-use Rattle.pkg_names.specs.Root.{root_eq}
-use Rattle.pkg_names.proofs.Roots.{root_eq-true}
 use Rattle.abr_record.specs.declared.Slot.{Slot}
 use Rattle.abr_record.specs.declared.Slot.TheVariants.{A, B, R}
 use Rattle.abr_record.specs.Marks.{active_record}
@@ -19,7 +17,6 @@ use Rattle.store_model.specs.declared.ends.ActivateEnd.{ActivateEnd}
 use Rattle.store_model.specs.declared.ends.ActivateEnd.TheVariants.{Active, BaseMissing, NotASystem, DiskRead, Rotten}
 use Rattle.store_model.specs.State.{State, Stored, IsStageOf, is_stored, has_root, protected_in, other_slot, with_sys}
 use Rattle.store_model.specs.State.Phase.{Sealed, Done}
-use Rattle.store_model.specs.Mirrors.{Mirrors}
 use Rattle.store_model.specs.Settling.{IsSeen}
 use Rattle.store_model.specs.Systems.{seen_bytes, staged_verdict, base_of}
 use Rattle.store_model.specs.Acts.Activate.{IsAnswerTo, activated, activated_at, next_activate}

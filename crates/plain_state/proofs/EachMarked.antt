@@ -1,5 +1,5 @@
 -- Marked one after the other, each package that names the blob has its mark.
-use Rattle.std.proofs.Common.{suc, length, subst, arith, ◌≡◌, ◌≢◌, inl, inr, ℕ, Bool, true, false, cond, List, [], ◌∷◌, map, All, AllPairs, refl, sym, ap, ◌∙◌}
+use Rattle.std.proofs.Common.{suc, subst, arith, ◌≡◌, ◌≢◌, inl, inr, ℕ, true, false, List, [], ◌∷◌, map, All, refl, sym, ap, ◌∙◌}
 use Rattle.std.specs.Prelude.{◌==◌}
 use Rattle.std.proofs.lemmas.Bool.{cases_Bool, eq-eqb, ne_eqb}
 use Rattle.std.proofs.lemmas.List.Elements.{All-nil, All-cons, All-head, All-tail}
@@ -8,13 +8,13 @@ use Rattle.package_indexes.specs.declared.Arriving.{Arriving}
 use Rattle.package_indexes.specs.Sets.{AreDistinct}
 use Rattle.fetch_queue.specs.declared.FetchEnd.{FetchEnd}
 use Rattle.fetch_queue.specs.declared.queue.MarkEntry.{MarkEntry}
-use Rattle.fetch_queue.specs.Fetches.{first_mark, marked as mark_once, with_mark as put_mark}
+use Rattle.fetch_queue.specs.Fetches.{first_mark, with_mark as put_mark}
 use Rattle.package_book.specs.Books.{Books}
 use Rattle.package_book.specs.Names.{names}
 use Rattle.store_model.specs.State.{Arrival, has_root}
 use Rattle.store_model.specs.Acts.Marking.{marked}
 use Rattle.plain_state.specs.Views.{joined, with_mark, AreMarked}
-use Rattle.plain_state.specs.Marks.{marks_with, marks_after}
+use Rattle.plain_state.specs.Marks.{marks_after}
 
 first_apart : (a : Arriving) (arriving : List Arriving) → AreDistinct (a ∷ arriving) → All (λ (b : Arriving). a.ticket ≢ b.ticket) arriving
 first_apart a arriving apart k d lt = apart 0 (suc k) d (omega arith) (omega arith)

@@ -1,6 +1,5 @@
 -- How many packages arrive, and what an opening replaces.
 use Rattle.std.proofs.Common.{◌≡◌, ◌+◌, min, ℕ, arith, suc, Bool, true, false, cond, List, [], ◌∷◌, length, Option, Some, None, is_some, refl, ap}
-use Rattle.pkg_names.specs.declared.root.Root.{Root}
 use Rattle.package_indexes.specs.Indexes.{root_at}
 use Rattle.store_model.specs.State.{State, Arrival}
 use Rattle.plain_state.specs.Learning.{listed, replaced_by}

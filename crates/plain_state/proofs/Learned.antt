@@ -14,19 +14,19 @@ use Rattle.package_book.specs.Books.Meta.{Read}
 use Rattle.store_model.specs.declared.events.LookedAt.{LookedAt}
 use Rattle.store_model.specs.declared.ends.RetainEnd.TheVariants as retains
 use Rattle.store_model.specs.Mirrors.{Mirrors}
-use Rattle.store_model.specs.State.{State, Stored, stored_len, is_stored, has_root, protected_in}
+use Rattle.store_model.specs.State.{State, stored_len, is_stored, has_root, protected_in}
 use Rattle.store_model.specs.Systems.{seen_bytes}
 use Rattle.store_model.specs.Settling.{IsSeen}
 use Rattle.store_model.specs.Acts.Begin.{has_to_read}
 use Rattle.store_model.specs.Acts.Retain.{next_retain}
 use Rattle.store_model.proofs.SameBooks.{with_books}
 use Rattle.plain_stock.specs.Contents.{AreBytesOf}
-use Rattle.plain_state.specs.Learning.{first_known, looked_at, at_root, long_of, told_of, Learns, LearnsLengths, LearnsAmong, LearnsOf, Forgets, IsReady, IsSettled}
+use Rattle.plain_state.specs.Learning.{first_known, looked_at, at_root, long_of, Learns, LearnsLengths, LearnsAmong, LearnsOf, Forgets, IsReady, IsSettled}
 use Rattle.plain_state.specs.Looking.{Sees, LearnsAll, AreFrom, AreAmong, AreLearned, roots_seen}
 use Rattle.plain_state.proofs.Settled.{first_of_some}
 use Rattle.plain_state.proofs.Looking.{learns_none, seen_from, front_has}
 use Rattle.plain_state.proofs.Seen.{seen_stored, seen_rooted}
-use Rattle.plain_state.proofs.SettledLooks.{AreRead, is_read_if, is_read_not, retains_these}
+use Rattle.plain_state.proofs.SettledLooks.{is_read_if, is_read_not, retains_these}
 
 never : {P : Type 0} {b : Bool} → b ≡ true → b ≡ false → P
 never holds lacks = absurd (true≢false (sym holds ∙ lacks))

@@ -20,7 +20,7 @@ use Rattle.plain_state.specs.Learning.{listed}
 
 -- ---- roots in lists
 
-append_has : (xs ys : List Root) (root : Root) → has_root (xs ++ ys) root ≡ (has_root xs root || has_root ys root)
+pub append_has : (xs ys : List Root) (root : Root) → has_root (xs ++ ys) root ≡ (has_root xs root || has_root ys root)
 append_has xs ys root = list_any-append (λ other. root_eq other root) xs ys
 
 pub either_has : (xs ys : List Root) (root : Root) → has_root (xs ++ ys) root ≡ true → (has_root xs root ≡ true) ⊎ (has_root ys root ≡ true)

@@ -1,26 +1,26 @@
 -- A judgement wants for no list where both were looked at.
-use Rattle.std.proofs.Common.{◌≡◌, ◌⊎◌, inl, inr, ◌≤◌, ℕ, Bool, true, false, cond, not, ◌&&◌, ◌||◌, List, [], ◌∷◌, length, Option, Some, None, is_some, Result, Ok, Err, refl, sym, ap, subst, ◌∙◌}
+use Rattle.std.proofs.Common.{◌≡◌, ◌≤◌, ℕ, Bool, true, false, cond, not, ◌&&◌, List, [], ◌∷◌, length, Option, Some, None, is_some, Result, Ok, Err, refl, sym, ap, subst, ◌∙◌}
 use Rattle.std.specs.Prelude.{find, nat_lt, option_and_then}
 use Rattle.std.specs.Option.{option_map}
-use Rattle.std.proofs.lemmas.Bool.{cases_Bool, true≢false, and_parts, ltb-false}
+use Rattle.std.proofs.lemmas.Bool.{true≢false, and_parts, ltb-false}
 use Rattle.pkg_names.specs.declared.root.Root.{Root}
 use Rattle.pkg_names.specs.declared.pinned.Pinned.{Pinned}
 use Rattle.package_book.specs.declared.book.TheConstants.{META_LIMIT}
-use Rattle.package_book.specs.Books.{Meta, Books, book_at}
+use Rattle.package_book.specs.Books.{Meta, book_at}
 use Rattle.package_book.specs.Book.{MetaAndFiles}
 use Rattle.package_book.specs.Names.{names}
 use Rattle.system_lists.specs.declared.list.TheConstants.{LIST_LIMIT}
 use Rattle.system_lists.specs.declared.fault.SystemFault.{SystemFault}
-use Rattle.system_lists.specs.declared.fault.SystemFault.TheVariants.{NoBook}
-use Rattle.system_lists.specs.Judging.{AtHand, Verdict, static_name, cached_name, first_of, absent, no_book, missing_name, unread, unread_text, unread_named, long_len, base_faults, judged, judged_files, judged_lists, static_list, cached_list}
-use Rattle.system_lists.specs.Judging.Verdict.{Missing, Faulty, Unread, Whole}
+use Rattle.system_lists.specs.declared.fault.SystemFault.TheVariants.{NoBook, BadBase}
+use Rattle.system_lists.specs.Judging.{AtHand, Verdict, static_name, cached_name, system_path, first_of, absent, no_book, missing_name, unread, unread_text, unread_named, long_len, base_faults, judged, judged_files, judged_lists, static_list, cached_list}
+use Rattle.system_lists.specs.Judging.Verdict.{Missing, Faulty, Whole}
 use Rattle.store_model.specs.declared.events.LookedAt.{LookedAt}
-use Rattle.store_model.specs.State.{State, Stored, stored_len, is_stored, has_root, protected_in}
+use Rattle.store_model.specs.State.{State, Stored, stored_len, is_stored, has_root}
 use Rattle.store_model.specs.Packages.{book_of, the_book, known_book}
 use Rattle.store_model.specs.Systems.{seen_bytes}
 use Rattle.plain_stock.specs.Contents.{AreBytesOf}
 use Rattle.plain_stock.proofs.Named.{outer_passes}
-use Rattle.plain_state.specs.Learning.{first_known, looked_at, IsReady}
+use Rattle.plain_state.specs.Learning.{looked_at, IsReady}
 use Rattle.plain_state.specs.Looking.{LearnsAll, Sees, IsLookedAt}
 use Rattle.plain_state.specs.Judged.{outer_in, hand_of, IsListSeen, AreListsSeen, IsJudged}
 use Rattle.plain_state.proofs.Protected.{from_retained}
@@ -33,45 +33,54 @@ pub record AreListsRead (at : AtHand) (system : Root) : Type 0 where
   pub base : absent at system ≡ None → missing_name at system ≡ None → (root : Root) → at.outer system static_name ≡ Some root → unread at root ≡ None
   pub cached : absent at system ≡ None → missing_name at system ≡ None → (root : Root) → at.outer system cached_name ≡ Some root → unread at root ≡ None
 
-abbrev IsFault : Option Verdict → Type 0
-IsFault None = Unit {0}
-IsFault (Some verdict) = IsJudged verdict
+-- what holds of each verdict that something is missing or wrong
+pub record Refuses (P : Verdict → Type 0) : Type 0 where
+  pub missing : (root : Root) → P (Missing root)
+  pub wrong : (why : SystemFault) → P (Faulty why)
 
-abbrev AreFaults : List (Option Verdict) → Type 0
-AreFaults [] = Unit {0}
-AreFaults (fault ∷ faults) = IsFault fault × AreFaults faults
+abbrev pub IsFault : (Verdict → Type 0) → Option Verdict → Type 0
+IsFault P None = Unit {0}
+IsFault P (Some verdict) = P verdict
 
-first_judged : (faults : List (Option Verdict)) (rest : Verdict) → AreFaults faults → IsJudged rest → IsJudged (first_of faults rest)
-first_judged [] rest all h = h
-first_judged (None ∷ faults) rest all h = first_judged faults rest all.1 h
-first_judged (Some fault ∷ faults) rest all h = all.0
+abbrev pub AreFaults : (Verdict → Type 0) → List (Option Verdict) → Type 0
+AreFaults P [] = Unit {0}
+AreFaults P (fault ∷ faults) = IsFault P fault × AreFaults P faults
 
-absent_fault : (at : AtHand) (root : Root) → IsFault (absent at root)
-absent_fault at root = first (is_some (at.len root) && at.is_kept root) where
-  first : (test : Bool) → IsFault (cond test None (Some (Missing root)))
+pub first_holds : (P : Verdict → Type 0) (faults : List (Option Verdict)) (rest : Verdict) → AreFaults P faults → P rest → P (first_of faults rest)
+first_holds P [] rest all h = h
+first_holds P (None ∷ faults) rest all h = first_holds P faults rest all.1 h
+first_holds P (Some fault ∷ faults) rest all h = all.0
+
+pub absent_fault : (P : Verdict → Type 0) → Refuses P → (at : AtHand) (root : Root) → IsFault P (absent at root)
+absent_fault P r at root = first (is_some (at.len root) && at.is_kept root) where
+  first : (test : Bool) → IsFault P (cond test None (Some (Missing root)))
   first true = tt
-  first false = tt
+  first false = r.missing root
 
-book_fault : (at : AtHand) (why : SystemFault) (root : Root) → IsFault (no_book at why root)
-book_fault at why root = first (at.is_book root) where
-  first : (test : Bool) → IsFault (cond test None (Some (Faulty why)))
+pub book_fault : (P : Verdict → Type 0) → Refuses P → (at : AtHand) (why : SystemFault) (root : Root) → IsFault P (no_book at why root)
+book_fault P r at why root = first (at.is_book root) where
+  first : (test : Bool) → IsFault P (cond test None (Some (Faulty why)))
   first true = tt
-  first false = tt
+  first false = r.wrong why
 
-missing_fault : (found : Option Root) → IsFault (option_map Missing found)
-missing_fault None = tt
-missing_fault (Some root) = tt
+pub missing_fault : (P : Verdict → Type 0) → Refuses P → (found : Option Root) → IsFault P (option_map Missing found)
+missing_fault P r None = tt
+missing_fault P r (Some root) = r.missing root
 
-base_judged : (at : AtHand) (pairs : List Pinned) → AreFaults (base_faults at pairs)
-base_judged at [] = tt
-base_judged at (pair ∷ pairs) = (absent_fault at pair.root, (book_fault at _ pair.root, (missing_fault _, base_judged at pairs)))
+pub base_holds : (P : Verdict → Type 0) → Refuses P → (at : AtHand) (pairs : List Pinned) → AreFaults P (base_faults at pairs)
+base_holds P r at [] = tt
+base_holds P r at (pair ∷ pairs) =
+    (absent_fault P r at pair.root, (book_fault P r at (BadBase pair.root) pair.root, (missing_fault P r (find (λ name. not (is_some (at.len name))) (at.names pair.root)), base_holds P r at pairs)))
+
+refused_judged : Refuses IsJudged
+refused_judged = record { missing = λ root. tt; wrong = λ why. tt }
 
 lists_judged : (at : AtHand) (system : Root) (base cached : Result (List Pinned) SystemFault) → IsJudged (judged_lists at system base cached)
 lists_judged at system (Err fault) cached = tt
 lists_judged at system (Ok base) (Err fault) = tt
-lists_judged at system (Ok base) (Ok cached) = first_judged (base_faults at base) (Whole _ cached) (base_judged at base) tt
+lists_judged at system (Ok base) (Ok cached) = first_holds IsJudged (base_faults at base) (Whole (record { path = system_path; root = system } ∷ base) cached) (base_holds IsJudged refused_judged at base) tt
 
-none_read : (found : Option Verdict) → found ≡ None → IsFault found
+none_read : (found : Option Verdict) → found ≡ None → IsFault IsJudged found
 none_read None e = tt
 none_read (Some verdict) e = absurd cc
 
@@ -87,9 +96,9 @@ files_judged at system (Some base) cached h k = first (missing_name at system) r
   named (Some root) e none = k none root e
 
   first : (missing : Option Verdict) → missing_name at system ≡ missing → IsJudged (first_of (missing ∷ unread at base ∷ unread_named at cached ∷ []) rest)
-  first (Some verdict) e = subst IsFault e (missing_fault (find (λ name. not (is_some (at.len name))) (at.names system)))
+  first (Some verdict) e = subst (IsFault IsJudged) e (missing_fault IsJudged refused_judged (find (λ name. not (is_some (at.len name))) (at.names system)))
   first None e =
-      first_judged (unread at base ∷ unread_named at cached ∷ []) rest
+      first_holds IsJudged (unread at base ∷ unread_named at cached ∷ []) rest
       (none_read (unread at base) (h e base refl), (none_read (unread_named at cached) (named cached refl e), tt))
       (lists_judged at system (static_list at base) (cached_list at cached))
 
@@ -99,9 +108,9 @@ judged_by at system lists = first (absent at system) refl where
   rest = judged_files at system (at.outer system static_name) (at.outer system cached_name)
 
   first : (gone : Option Verdict) → absent at system ≡ gone → IsJudged (first_of (gone ∷ no_book at NoBook system ∷ []) rest)
-  first (Some verdict) e = subst IsFault e (absent_fault at system)
+  first (Some verdict) e = subst (IsFault IsJudged) e (absent_fault IsJudged refused_judged at system)
   first None e =
-      first_judged (no_book at NoBook system ∷ []) rest (book_fault at NoBook system, tt)
+      first_holds IsJudged (no_book at NoBook system ∷ []) rest (book_fault IsJudged refused_judged at NoBook system, tt)
       (files_judged at system (at.outer system static_name) (at.outer system cached_name) (lists.base e) (lists.cached e))
 
 -- ---- of a state with its contents

@@ -74,15 +74,19 @@ pub record LearnsLengths (roots : List Root) (old new : State) : Type 0 where
 -- what they have learned is of these packages, and these are stored
 pub record LearnsAmong (roots : List Root) (old new : State) : Type 0 where
   pub rest : new ≡ record old { books = new.books }
-  pub known : (other : Root) → is_some (book_at old.books other) ≡ true → book_at new.books other ≡ book_at old.books other
-  pub among : (other : Root) → is_some (book_at old.books other) ≡ false → is_some (book_at new.books other) ≡ true
-      → (has_root roots other && is_stored old.stock other) ≡ true
+  pub known : (other : Root) → is_some (book_at old.books other) ≡ true
+      → book_at new.books other ≡ book_at old.books other
+  pub among : (other : Root) → is_some (book_at old.books other) ≡ false
+      → is_some (book_at new.books other) ≡ true → (has_root roots other && is_stored old.stock other) ≡ true
 
--- they learn what an event that looked at these blobs tells of these packages, and it looked at those that had to be read
+-- they learn what an event that looked at these blobs tells of these packages, and it looked at those that had
+-- to be read
 pub record LearnsOf (roots : List Root) (seen : List LookedAt) (old new : State) : Type 0 where
   pub rest : new ≡ record old { books = new.books }
-  pub books : (other : Root) → book_at new.books other ≡ first_known (book_at old.books other) (told_of roots seen old.stock other)
-  pub read : (root : Root) → has_root roots root ≡ true → has_to_read old root ≡ true → is_some (seen_bytes seen root) ≡ true
+  pub books : (other : Root) → book_at new.books other
+      ≡ first_known (book_at old.books other) (told_of roots seen old.stock other)
+  pub read : (root : Root) → has_root roots root ≡ true → has_to_read old root ≡ true
+      → is_some (seen_bytes seen root) ≡ true
 
 -- what is read of a package that is to be learned, as the event tells it
 abbrev pub seen_of : Root → Option (List ℕ) → List LookedAt

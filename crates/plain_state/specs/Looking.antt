@@ -27,12 +27,14 @@ pub record Sees (contents seen more : List LookedAt) (old new : State) : Type 0 
   pub learns : (t : State) → LearnsAll seen t old → LearnsAll more t new
   pub from : AreFrom contents seen → AreFrom contents more
   pub stays : (root : Root) → is_some (seen_bytes seen root) ≡ true → is_some (seen_bytes more root) ≡ true
-  pub known : (root : Root) → is_some (book_at old.books root) ≡ true → book_at new.books root ≡ book_at old.books root
+  pub known : (root : Root) → is_some (book_at old.books root) ≡ true
+      → book_at new.books root ≡ book_at old.books root
 
 -- of these blobs alone more were seen
 abbrev pub AreAmong : List Root → List LookedAt → List LookedAt → Type 0
 AreAmong roots seen more =
-    (root : Root) → is_some (seen_bytes more root) ≡ true → (has_root roots root || is_some (seen_bytes seen root)) ≡ true
+    (root : Root) → is_some (seen_bytes more root) ≡ true
+    → (has_root roots root || is_some (seen_bytes seen root)) ≡ true
 
 -- the blob was seen, if it is in the contents and isn't too long to be read
 abbrev pub IsLookedAt : List LookedAt → List LookedAt → Root → Type 0

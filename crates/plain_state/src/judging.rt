@@ -12,11 +12,10 @@ ghost use Rattle.store_model.specs.State.Phase.{Sealed};
 ghost use Rattle.store_model.specs.Systems.{seen_bytes, staged_verdict};
 ghost use Rattle.store_model.specs.Acts.Activate.{IsAnswerTo, IsDueActivate, next_activate};
 ghost use Rattle.system_judge.specs.Judgement.{verdict_of};
-ghost use Rattle.system_lists.specs.Judging.{judged};
 ghost use Rattle.plain_stock.specs.Contents.{AreBytesOf};
 ghost use Rattle.plain_state.specs.Learning.{Forgets, IsReady, IsSettled};
 ghost use Rattle.plain_state.specs.Looking.{LearnsAll, AreFrom, roots_seen};
-ghost use Rattle.plain_state.specs.Judged.{outer_in, hand_of, after_verdict, IsJudged, IsReadAll};
+ghost use Rattle.plain_state.specs.Judged.{outer_in, after_verdict, IsJudged, IsReadAll};
 
 use crate::state::State;
 use crate::turns::{PhaseOf, Turn};
@@ -120,9 +119,6 @@ impl State {
     {
         outer_in(&self.books, root, file)
     }
-}
-
-impl State {
     /// Judges the sealed system of a lane's update, and where it is whole makes its slot the next to boot.
     pub fn activate(
         &mut self,
@@ -146,10 +142,8 @@ impl State {
             Ok(judgement) => {
                 let reply = self.take_verdict(lane, sys, judgement);
                 self.forget_seen(&seen);
-                Ok(Activation {
-                    reply,
-                    seen: Items::make(seen),
-                })
+                let seen = Items::make(seen);
+                Ok(Activation { reply, seen })
             }
             Err(fault) => {
                 self.forget_seen(&seen);
@@ -174,24 +168,12 @@ impl State {
         ensures judged { IfOk result (λ found. IsJudged (verdict_of found)) }
     {
         self.look_at_lists(contents, &sys.system, seen)?;
-        self.judged(seen, &sys.system, true)
-    }
-
-    // Judges the system with this package by what the books know and the lists that were looked at.
-    fn judged(
-        &self,
-        seen: &[LookedAt],
-        system: &Root,
-        retained: bool,
-    ) -> Result<Judgement, AllocError>
-        ensures { IfOk result (λ found. verdict_of found ≡ judged (hand_of self.now seen.now retained) system.now) }
-    {
         let hand = Hand {
             state: self,
             seen,
-            retained,
+            retained: true,
         };
-        judge(self.alloc, &hand, system)
+        judge(self.alloc, &hand, &sys.system)
     }
 
     // What a judgement makes of the sealed system.

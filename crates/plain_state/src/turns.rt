@@ -1,7 +1,7 @@
 //! Updates under way.
 
 ghost use Rattle.std.specs.Prelude.{◌≡◌};
-ghost use Rattle.plain_state.specs.Holdings.{sealed_at, sealed_in};
+ghost use Rattle.plain_state.specs.Holdings.{sealed_in};
 
 use crate::state::State;
 use image_layout::Sys;
@@ -37,15 +37,6 @@ impl Turn {
     {
         self.lane
     }
-
-    fn sealed(&self) -> Option<Sys>
-        ensures { result ≡ sealed_at self.now.phase }
-    {
-        match self.phase {
-            PhaseOf::Sealed(sys) => Some(sys),
-            _ => None,
-        }
-    }
 }
 
 impl State {
@@ -54,7 +45,10 @@ impl State {
         ensures { result ≡ sealed_in self.now.stage }
     {
         match &self.stage {
-            Some(stage) => stage.sealed(),
+            Some(stage) => match stage.phase {
+                PhaseOf::Sealed(sys) => Some(sys),
+                _ => None,
+            },
             None => None,
         }
     }

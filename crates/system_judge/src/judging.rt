@@ -125,7 +125,8 @@ fn pairs_in(
     alloc: Global,
     list: Result<PinnedList, Option<SystemFault>>,
 ) -> Result<PinnedList, AllocError>
-    ensures { IfOk result (λ pairs. (read : Result (List PinnedOf) SystemFaultOf) → IsList read list → pairs ≡ pairs_in read) }
+    ensures { IfOk result (λ pairs. (read : Result (List PinnedOf) SystemFaultOf)
+        → IsList read list → pairs ≡ pairs_in read) }
 {
     match list {
         Ok(pairs) => Ok(pairs),

@@ -1,4 +1,4 @@
-use Rattle.std.proofs.Common.{◌≡◌, [], get_or, ap, ◌∙◌, arith}
+use Rattle.std.proofs.Common.{◌≡◌, get_or, ap, ◌∙◌, arith}
 use Rattle.store_model.specs.State.{Stored}
 use Rattle.store_model.specs.Packages.{pages_of}
 use Rattle.plain_stock.proofs.Stocks.{stock_pages_more}

@@ -1,6 +1,5 @@
-use Rattle.std.proofs.Common.{◌≡◌, List, ◌++◌, map, sym, ap, ap₂, ◌∙◌}
+use Rattle.std.proofs.Common.{◌≡◌, List, ◌++◌, ap, ap₂, ◌∙◌}
 use Rattle.pkg_names.specs.declared.root.Root.{Root}
-use Rattle.pkg_names.specs.declared.pinned.Pinned.{Pinned}
 use Rattle.system_lists.specs.Judging.{cached_list}
 use Rattle.system_judge.specs.Listed.{pinned_roots, pairs_in, base_pairs}
 use Rattle.system_judge.proofs.judging.listed.Goals as goal

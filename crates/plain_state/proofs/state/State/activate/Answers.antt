@@ -12,7 +12,7 @@ use Rattle.plain_state.proofs.state.State.activate.Goals as goal
 
 pub returns-in-Ok-clause-due : goal.returns-in-Ok-clause-due
 returns-in-Ok-clause-due c =
-    subst (λ (seen : List LookedAt). IsDueActivate c.args.self.now c.args.lane seen c.take_verdict-reply.result) (sym c.make.ensures.list)
+    subst (λ (seen : List LookedAt). IsDueActivate c.args.self.now c.args.lane seen c.take_verdict-reply.result) (sym c.make-seen.ensures.list)
     (record {
       sys = c.args.sys;
       stage = c.requires.stage;
@@ -22,12 +22,12 @@ returns-in-Ok-clause-due c =
 
 pub returns-in-Ok-clause-seen : goal.returns-in-Ok-clause-seen
 returns-in-Ok-clause-seen c =
-    subst (λ (seen : List LookedAt). IsSeen seen c.args.self.now.stock) (sym c.make.ensures.list)
+    subst (λ (seen : List LookedAt). IsSeen seen c.args.self.now.stock) (sym c.make-seen.ensures.list)
     (seen_from c.args.contents.now c.judge_staged.new.seen.items c.args.self.now.stock c.requires.bytes c.judge_staged.ensures.from)
 
 pub returns-in-Ok-clause-settled : goal.returns-in-Ok-clause-settled
 returns-in-Ok-clause-settled c =
-    subst (λ (seen : List LookedAt). IsSettled seen (next_activate c.args.self.now c.args.lane seen c.take_verdict-reply.result) c.forget_seen.new.self) (sym c.make.ensures.list)
+    subst (λ (seen : List LookedAt). IsSettled seen (next_activate c.args.self.now c.args.lane seen c.take_verdict-reply.result) c.forget_seen.new.self) (sym c.make-seen.ensures.list)
     (activated_by c.args.self.now c.judge_staged.new.self c.take_verdict-reply.new.self c.forget_seen.new.self c.args.lane c.judge_staged.new.seen.items c.args.sys (verdict_of c.in-Ok.judgement) c.take_verdict-reply.result
     c.requires.ready (seen_from c.args.contents.now c.judge_staged.new.seen.items c.args.self.now.stock c.requires.bytes c.judge_staged.ensures.from) c.requires.stage c.judge_staged.ensures.learns c.in-Ok.ensures.verdict
     c.take_verdict-reply.ensures.state c.take_verdict-reply.ensures.answer

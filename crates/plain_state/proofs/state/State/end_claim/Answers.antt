@@ -1,4 +1,4 @@
-use Rattle.std.proofs.Common.{◌≡◌, List, ap, ◌∙◌}
+use Rattle.std.proofs.Common.{List, ap, ◌∙◌}
 use Rattle.fetch_queue.specs.Fetches.{without_claim}
 use Rattle.store_model.specs.State.{State, Arrival}
 use Rattle.store_model.specs.Acts.Marking.{ended}

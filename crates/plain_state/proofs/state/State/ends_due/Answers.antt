@@ -3,7 +3,7 @@ use Rattle.open_tracker.specs.declared.dirs.DirEntry.{DirEntry}
 use Rattle.fetch_queue.specs.declared.queue.ClaimEntry.{ClaimEntry}
 use Rattle.package_indexes.specs.declared.Arriving.{Arriving}
 use Rattle.store_model.specs.State.{State}
-use Rattle.plain_state.specs.Holdings.{ends_due, stage_ends}
+use Rattle.plain_state.specs.Holdings.{ends_due}
 use Rattle.plain_state.proofs.HoldingCounts.{joined_length, sums}
 use Rattle.plain_state.proofs.state.State.ends_due.Goals as goal
 

@@ -1,4 +1,4 @@
-use Rattle.std.proofs.Common.{◌≡◌, ◌+◌, ◌-◌, ◌^◌, ℕ, min, take, List, [], ◌∷◌, ◌++◌, refl, sym, ap, ap₂, subst, ◌∙◌}
+use Rattle.std.proofs.Common.{◌≡◌, ◌+◌, ◌-◌, ◌^◌, ℕ, min, take, List, [], ◌∷◌, ◌++◌, sym, ap, ap₂, subst, ◌∙◌}
 use Rattle.store_model.specs.State.{Stored}
 use Rattle.store_model.specs.Packages.{pages_of}
 use Rattle.plain_stock.specs.Stocks.{IsStock}

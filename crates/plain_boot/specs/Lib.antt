@@ -1,0 +1,3 @@
+pub mod AllBooks
+pub mod Looking
+pub mod Starting
