@@ -6,6 +6,7 @@ use Rattle.fetch_queue.specs.declared.queue.ClaimEntry.{ClaimEntry}
 use Rattle.std.proofs.lemmas.Bool.{cases_Bool, eqb-true, true≢false}
 use Rattle.std.proofs.lemmas.List.Elements.{All-nil, All-push}
 use Rattle.pkg_names.specs.declared.root.Root.{Root}
+use Rattle.pkg_merkle.specs.declared.hasher.TheConstants.{BYTES_LIMIT}
 use Rattle.open_tracker.specs.Directories.{root_of}
 use Rattle.store_model.specs.declared.events.Act.{Act}
 use Rattle.store_model.specs.declared.events.Act.TheVariants as acts
@@ -14,7 +15,7 @@ use Rattle.store_model.specs.declared.events.LookedAt.{LookedAt}
 use Rattle.store_model.specs.declared.replies.Ticket.{Ticket}
 use Rattle.store_model.specs.State.{State, Stored, Arrival, arrival_of, is_stored}
 use Rattle.store_model.specs.Step.{IsDue, next}
-use Rattle.store_model.specs.History.{Numbered, after, of_lane}
+use Rattle.store_model.specs.History.{Numbered, Origin, after, of_lane}
 use Rattle.store_model.specs.Footprints.{footprint_of}
 use Rattle.store_model.specs.Held.{HasHandles, IsTicketIn, claim_in}
 use Rattle.store_model.specs.Files.{found}
@@ -30,7 +31,7 @@ use Rattle.store_model.proofs.Holding.{holds_as_state}
 use Rattle.store_model.proofs.HoldingThere.{handles_there}
 use Rattle.plain_stock.specs.Contents.{AreBytesOf}
 use Rattle.plain_ledger.specs.Ledgers.{LedgerOf, Agrees, Notes, Stays, Tells, event_by, next_number}
-use Rattle.plain_desk.specs.Stores.{DraftOf, Drafted, ImagesOf, StoreOf, HaveRoom, IsStore, draft_of, room_in, len_of, room_of, view_of}
+use Rattle.plain_desk.specs.Stores.{Clears, DraftOf, Drafted, ImagesOf, StoreOf, HaveRoom, IsStore, draft_of, room_in, len_of, room_of, view_of, IsFileThere}
 
 -- the store with this ledger and these drafts and images
 abbrev pub store_of : LedgerOf → List DraftOf → ImagesOf → StoreOf
@@ -129,8 +130,8 @@ others_room old new lane act n other differs =
 
 -- the drafts after an event that gives its lane this room
 pub have_room : (old new : LedgerOf) (lane : ℕ) (act : Act) (drafts drafts' : List DraftOf) (room : ℕ) (bytes : List ℕ) → Notes old lane act new → HaveRoom drafts old.history → Drafted lane room bytes drafts drafts'
-    → room ≡ len_of (held_after_act (held (of_lane lane old.history)) (next_number old) lane act).claim → length bytes ≤ room → HaveRoom drafts' new.history
-have_room old new lane act drafts drafts' room bytes n had d is few = record {
+    → room ≡ len_of (held_after_act (held (of_lane lane old.history)) (next_number old) lane act).claim → length bytes ≤ room → room ≤ BYTES_LIMIT → HaveRoom drafts' new.history
+have_room old new lane act drafts drafts' room bytes n had d is few low = record {
   rooms = λ other. elim (cases_Bool (lane == other)) [
     | inl same ↦ d.rooms other ∙ ap (λ (t : Bool). cond t room (room_in drafts other)) same ∙ is ∙ sym (own_room old new lane act n) ∙ ap (λ (l : ℕ). room_of l new.history) (eqb-true lane other same)
     | inr differs ↦ d.rooms other ∙ ap (λ (t : Bool). cond t room (room_in drafts other)) differs ∙ had.rooms other ∙ sym (others_room old new lane act n other differs)
@@ -144,6 +145,14 @@ have_room old new lane act drafts drafts' room bytes n had d is few = record {
         let a : room_in drafts' other ≡ room_in drafts other = d.rooms other ∙ ap (λ (t : Bool). cond t room (room_in drafts other)) differs in
         let b : draft_of drafts' other ≡ draft_of drafts other = d.drafts other ∙ ap (λ (t : Bool). cond t bytes (draft_of drafts other)) differs in
         omega (arith, a, ap length b, had.enough other)
+  ];
+  short = λ other. elim (cases_Bool (lane == other)) [
+    | inl same ↦
+        let a : room_in drafts' other ≡ room = d.rooms other ∙ ap (λ (t : Bool). cond t room (room_in drafts other)) same in
+        omega (arith, a, low)
+    | inr differs ↦
+        let a : room_in drafts' other ≡ room_in drafts other = d.rooms other ∙ ap (λ (t : Bool). cond t room (room_in drafts other)) differs in
+        omega (arith, a, had.short other)
   ];
 }
 
@@ -169,7 +178,7 @@ pub moved : {old new : LedgerOf} {blobs : List LookedAt} {drafts : List DraftOf}
 moved {old} {new} {blobs} {drafts} {images} is m = record {
   holds = m.holds;
   stored = subst (λ (x : List Stored). AreBytesOf blobs x) (sym m.stock) is.stored;
-  roomy = record { rooms = λ lane. is.roomy.rooms lane ∙ sym (m.rooms lane); enough = is.roomy.enough };
+  roomy = record { rooms = λ lane. is.roomy.rooms lane ∙ sym (m.rooms lane); enough = is.roomy.enough; short = is.roomy.short };
   filled = is.filled;
   unbroken = m.broken ∙ is.unbroken;
 }
@@ -221,15 +230,21 @@ claim_there l lane a =
     (holds_as_state l.origin l.history lane a.legal).claim
     ∙ sym (ap (λ (s : State). map claim_in (filter (λ (claim : ClaimEntry). claim.lane == lane) s.claims)) a.mirrors.rest)
 
+-- the lanes have the rooms of the claims that the state has
+same_rooms : {old new : LedgerOf} → Agrees old → Agrees new → new.state.claims ≡ old.state.claims
+    → (other : ℕ) → room_of other new.history ≡ room_of other old.history
+same_rooms {old} {new} a b claims = λ other.
+    ap len_of (same_claim (held (of_lane other new.history)).claim (held (of_lane other old.history)).claim
+    (claim_there new other b
+    ∙ ap (λ (cs : List ClaimEntry). map claim_in (filter (λ (claim : ClaimEntry). claim.lane == other) cs)) claims
+    ∙ sym (claim_there old other a)))
+
 pub tells_moves : {old new : LedgerOf} {lane : ℕ} {IsIts : ℕ → Event → Type 0} → Agrees old → Tells lane IsIts old new
     → Moves old new
-tells_moves {old} {new} a t = record {
+tells_moves a t = record {
   holds = t.notes.holds;
   stock = t.stock;
-  rooms = λ other. ap len_of (same_claim (held (of_lane other new.history)).claim (held (of_lane other old.history)).claim
-      (claim_there new other t.notes.holds
-      ∙ ap (λ (cs : List ClaimEntry). map claim_in (filter (λ (claim : ClaimEntry). claim.lane == other) cs)) t.claims
-      ∙ sym (claim_there old other a)));
+  rooms = same_rooms a t.notes.holds t.claims;
   broken = notes_unbroken t.notes;
 }
 
@@ -259,6 +274,18 @@ still {l} a = record {
   holds = a;
 }
 
+-- a call that did nothing
+pub rests_still : {tie : List ℕ} {lane : ℕ} {l : LedgerOf} {fillers : Fillers} → Agrees l
+    → Rests (view_at tie lane l fillers) (view_at tie lane l fillers)
+rests_still {tie} {lane} {l} {fillers} a = rests_at tie lane fillers fillers (still a)
+
+-- what the desk saw it sees
+pub on_stays : {old new : LedgerOf} (P : State → Type 0) → Stays old new → P (after old.origin old.history)
+    → P (after new.origin new.history)
+on_stays {old} {new} P s so =
+    subst (λ (h : List Event). P (after new.origin h)) (sym s.history)
+    (subst (λ (o : Origin). P (after o old.history)) (sym s.origin) so)
+
 -- the desk sees that no write failed
 pub unbroken_at : {l : LedgerOf} → Agrees l → l.state.broken ≡ None → (after l.origin l.history).broken ≡ None
 unbroken_at {l} a none = sym (ap (λ (s : State). s.broken) a.mirrors.rest) ∙ none
@@ -275,6 +302,26 @@ pub answered : {A E : Type 0} {old new : LedgerOf} {blobs : List LookedAt} {draf
 answered lane IsIts (Ok a) is ok err = moved is (tells_moves is.holds ok)
 answered lane IsIts (Err e) is ok err = moved is (stays_moves err)
 
+-- blobs were removed
+pub cleared : {A E : Type 0} {old new : LedgerOf} {blobs blobs' : List LookedAt} {drafts : List DraftOf} {images : ImagesOf}
+    (lane : ℕ) (IsIts : A → ℕ → Event → Type 0) (r : Result A E) → IsStore old blobs drafts images
+    → IfOk r (λ reply. Clears lane (IsIts reply) old new) → OnErr r (Stays old new) → AreBytesOf blobs' new.state.stock
+    → IsStore new blobs' drafts images
+cleared lane IsIts (Ok a) is ok err bytes = record {
+  holds = ok.notes.holds;
+  stored = bytes;
+  roomy = record {
+    rooms = λ other. is.roomy.rooms other ∙ sym (same_rooms is.holds ok.notes.holds ok.claims other);
+    enough = is.roomy.enough;
+    short = is.roomy.short;
+  };
+  filled = is.filled;
+  unbroken = notes_unbroken ok.notes ∙ is.unbroken;
+}
+cleared lane IsIts (Err e) is ok err bytes =
+    let m = moved is (stays_moves err) in
+    record { holds = m.holds; stored = bytes; roomy = m.roomy; filled = m.filled; unbroken = m.unbroken }
+
 -- a directory that isn't open, as the desk sees it
 pub not_open : {old new : LedgerOf} (dir lane : ℕ) → Stays old new → root_of old.state.dirs dir lane ≡ None
     → root_of (after new.origin new.history).dirs dir lane ≡ None
@@ -284,11 +331,11 @@ not_open {old} {new} dir lane s none =
 
 -- ---- files
 
--- a file that is a blob of its own is stored
-pub file_there : (l : LedgerOf) (lane dir : ℕ) (file : List ℕ) (root : Root) → Agrees l → found l.state lane dir file ≡ Outer root → is_stored l.state.stock root ≡ true
-file_there l lane dir file root a is =
+pub file_there : (l : LedgerOf) (lane dir : ℕ) (file : List ℕ) → Agrees l → IsFileThere l.state lane dir file
+file_there l lane dir file a = λ root is.
     let t : State = after l.origin l.history in
-    let same : found t lane dir file ≡ found l.state lane dir file = found_same t l.state.books a.mirrors.books lane dir file ∙ ap (λ (s : State). found s lane dir file) (sym a.mirrors.rest) in
+    let same : found t lane dir file ≡ found l.state lane dir file =
+    found_same t l.state.books a.mirrors.books lane dir file ∙ ap (λ (s : State). found s lane dir file) (sym a.mirrors.rest) in
     ap (λ (s : State). is_stored s.stock root) a.mirrors.rest ∙ files_there l.origin l.history a.legal lane dir file root (same ∙ is)
 
 -- ---- what a lane holds, in the state

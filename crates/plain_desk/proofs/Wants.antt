@@ -19,8 +19,8 @@ use Rattle.store_model.specs.Acts.Want.{IsAnswered, IsDueWant, answer_for, want_
 use Rattle.store_model.proofs.HoldingThere.{handles_there}
 use Rattle.store_model.proofs.LanesQuiet.{knows_always, waits}
 use Rattle.store_model.proofs.SameBooks.{same_fault, want_same}
-use Rattle.plain_ledger.specs.Ledgers.{LedgerOf, Agrees}
-use Rattle.plain_desk.proofs.Stores.{IsOf, handles, ticket_at, ticket_there}
+use Rattle.plain_ledger.specs.Ledgers.{LedgerOf, Agrees, Stays}
+use Rattle.plain_desk.proofs.Stores.{IsOf, on_stays, handles, ticket_at, ticket_there}
 
 -- the lane has the ticket
 abbrev pub Has : LedgerOf → ℕ → Ticket → Type 0
@@ -39,6 +39,10 @@ give_up_due l lane ticket a has = first (arrival_of l.state.arriving ticket.numb
   first : (o : Option Arrival) → IsSomeAnd o (IsOf lane ticket.root) → IsSomeAnd o (λ (arrival : Arrival). arrival.lane ≡ lane)
   first None none = absurd none
   first (Some arrival) there = there.lane
+
+-- what the state was asked
+pub answers : {s t : State} (ticket : Ticket) {found : Option WantEnd} → s ≡ t → found ≡ answer_to s ticket → answer_to t ticket ≡ found
+answers ticket same is = sym (ap (λ (x : State). answer_to x ticket) same) ∙ sym is
 
 pub want_due : (l : LedgerOf) (lane : ℕ) (ticket : Ticket) (reply : WantEnd) → Agrees l → Has l lane ticket → IsFree l lane → answer_to l.state ticket ≡ Some reply → IsDueWant l.state lane ticket.number reply
 want_due l lane ticket reply a has free answer = first (arrival_of l.state.arriving ticket.number) (ticket_there l lane ticket a has) answer where
@@ -76,9 +80,9 @@ abbrev pub is_failure : WantEnd → Bool
 is_failure (wants.Failed cause) = true
 is_failure reply = false
 
-record GoesOn (mark : Option FetchEnd) (fault : Option PackageFault) : Type 0 where
-  mark : mark ≡ None
-  fault : fault ≡ None
+record GoesOn (first : Option FetchEnd) (why : Option PackageFault) : Type 0 where
+  mark : first ≡ None
+  fault : why ≡ None
 
 goes_on : (mark : Option FetchEnd) (fault : Option PackageFault) (complete : Bool) (free : Option Root) (reply : WantEnd) → answer_for mark fault complete free ≡ Some reply → is_failure reply ≡ false → GoesOn mark fault
 goes_on (Some end) fault complete free reply e kept = absurd (true≢false (failure (wants.Failed (causes.Fetch end)) reply e refl ∙ kept)) where
@@ -100,3 +104,13 @@ may_go_on l lane ticket reply a answer kept =
       first (Some arrival) e =
           let on = goes_on arrival.mark (known_fault l.state.books arrival.root) _ _ reply e kept in
           (on.mark, same_fault (after l.origin l.history).books l.state.books a.mirrors.books arrival.root ∙ on.fault)
+
+-- and so the desk sees it after a call that did nothing
+pub may_go_on_still : {old new : LedgerOf} (lane : ℕ) (ticket : Ticket) (reply : WantEnd) → Agrees old → Stays old new
+    → answer_to old.state ticket ≡ Some reply → is_failure reply ≡ false
+    → IsSomeAnd (arrival_of (after new.origin new.history).arriving ticket.number)
+    (λ (arrival : Arrival). (arrival.mark ≡ None) × (known_fault (after new.origin new.history).books arrival.root ≡ None))
+may_go_on_still {old} {new} lane ticket reply a s answer kept =
+    on_stays (λ (t : State). IsSomeAnd (arrival_of t.arriving ticket.number)
+    (λ (arrival : Arrival). (arrival.mark ≡ None) × (known_fault t.books arrival.root ≡ None))) s
+    (may_go_on old lane ticket reply a answer kept)

@@ -1,7 +1,8 @@
 -- A store, as contracts see it, and what a lane's desk at it is seen as.
-use Rattle.std.specs.Prelude.{◌≡◌, ◌≢◌, ◌<◌, ◌≤◌, ℕ, ◌==◌, List, [], ◌∷◌, ◌++◌, length, find, Option, Some, None, IfSome, if◌then◌else◌}
+use Rattle.std.specs.Prelude.{true, not, filter, ◌-◌, ◌&&◌, nat_le, ◌≡◌, ◌≢◌, ◌<◌, ◌≤◌, ℕ, ◌==◌, List, [], ◌∷◌, ◌++◌, length, find, Option, Some, None, IfSome, if◌then◌else◌}
 use Rattle.image_layout.specs.declared.ImageKind.{ImageKind}
 use Rattle.image_layout.specs.declared.ImageKind.TheVariants as images
+use Rattle.pkg_merkle.specs.declared.hasher.TheConstants.{BYTES_LIMIT}
 use Rattle.store_model.specs.declared.events.Event.{Event}
 use Rattle.store_model.specs.declared.events.LookedAt.{LookedAt}
 use Rattle.pkg_names.specs.NameAndVariant.{NameAndVariant}
@@ -10,7 +11,14 @@ use Rattle.store_model.specs.declared.events.Act.TheVariants as acts
 use Rattle.store_model.specs.declared.ends.BeginEnd.{BeginEnd}
 use Rattle.store_model.specs.declared.ends.BeginEnd.TheVariants as begins
 use Rattle.store_model.specs.declared.replies.BeginReply.{BeginReply}
-use Rattle.store_model.specs.Replies.{Looks, IsBegun}
+use Rattle.store_model.specs.declared.ends.ReadEnd.{ReadEnd}
+use Rattle.store_model.specs.declared.ends.CheckEnd.{CheckEnd}
+use Rattle.store_model.specs.declared.replies.ReadReply.{ReadReply}
+use Rattle.store_model.specs.declared.replies.CheckReply.{CheckReply}
+use Rattle.store_model.specs.State.{State, has_root, is_stored}
+use Rattle.store_model.specs.Files.{found}
+use Rattle.store_model.specs.Files.Found.{Outer}
+use Rattle.store_model.specs.Replies.{Acts, Looks, IsBegun, IsRead, IsChecked}
 use Rattle.store_model.specs.History.{Origin, of_lane}
 use Rattle.store_model.specs.Holding.{HeldClaim, held}
 use Rattle.pkg_names.specs.declared.root.Root.{Root}
@@ -18,7 +26,9 @@ use Rattle.store_model.specs.Desk.{View, Fillers, Keeping, filler_of, with_fille
 use Rattle.store_model.specs.Desk.Keeping.{Blob, Image}
 use Rattle.store_model.specs.Calls.{HasByteOf}
 use Rattle.plain_stock.specs.Contents.{AreBytesOf}
-use Rattle.plain_ledger.specs.Ledgers.{LedgerOf, Agrees}
+use Rattle.store_model.specs.Systems.{seen_bytes}
+use Rattle.store_model.specs.declared.events.Act.{Act}
+use Rattle.plain_ledger.specs.Ledgers.{LedgerOf, Agrees, Notes, event_by, next_number}
 
 -- the room that a lane has for a blob, and the bytes that it has put there
 pub record DraftOf : Type 0 where
@@ -50,14 +60,14 @@ view_of tie lane s = record {
   fillers = s.images.fillers;
 }
 
-abbrev draft_with : List DraftOf → ℕ → Option DraftOf
+abbrev pub draft_with : List DraftOf → ℕ → Option DraftOf
 draft_with drafts lane = find (λ (draft : DraftOf). draft.lane == lane) drafts
 
-abbrev bytes_in : Option DraftOf → List ℕ
+abbrev pub bytes_in : Option DraftOf → List ℕ
 bytes_in None = []
 bytes_in (Some draft) = draft.bytes
 
-abbrev len_in : Option DraftOf → ℕ
+abbrev pub len_in : Option DraftOf → ℕ
 len_in None = 0
 len_in (Some draft) = draft.room
 
@@ -68,6 +78,16 @@ draft_of drafts lane = bytes_in (draft_with drafts lane)
 -- the room that the lane has for them
 abbrev pub room_in : List DraftOf → ℕ → ℕ
 room_in drafts lane = len_in (draft_with drafts lane)
+
+-- these bytes come behind those of the draft, if it is the lane's and has room for them
+abbrev pub added : ℕ → List ℕ → DraftOf → DraftOf
+added lane bytes draft =
+    if (draft.lane == lane) && nat_le (length bytes) (draft.room - length draft.bytes)
+    then record draft { bytes = draft.bytes ++ bytes } else draft
+
+-- the drafts but the lane's
+abbrev pub without_draft : List DraftOf → ℕ → List DraftOf
+without_draft drafts lane = filter (λ (draft : DraftOf). not (draft.lane == lane)) drafts
 
 -- the new drafts are the old ones, but this lane has this room and these bytes
 pub record Drafted (lane room : ℕ) (bytes : List ℕ) (old new : List DraftOf) : Type 0 where
@@ -104,10 +124,11 @@ len_of (Some claim) = number_or_zero claim.len
 abbrev pub room_of : ℕ → List Event → ℕ
 room_of lane history = len_of (held (of_lane lane history)).claim
 
--- Each lane's draft has the room that was made for its claim, and no more bytes.
+-- Each lane's draft has the room that was made for its claim, and no more bytes. No room is larger than a blob may be.
 pub record HaveRoom (drafts : List DraftOf) (history : List Event) : Type 0 where
   pub rooms : (lane : ℕ) → room_in drafts lane ≡ room_of lane history
   pub enough : (lane : ℕ) → length (draft_of drafts lane) ≤ room_in drafts lane
+  pub short : (lane : ℕ) → room_in drafts lane ≤ BYTES_LIMIT
 
 -- an image with a filler is made of files with its root
 abbrev pub AreFilled : ImagesOf → Type 0
@@ -122,6 +143,18 @@ pub record IsStore (l : LedgerOf) (blobs : List LookedAt) (drafts : List DraftOf
   pub filled : AreFilled images
   pub unbroken : l.state.broken ≡ None
 
+-- these blobs have no bytes any more, and the others have theirs
+abbrev pub AreRemoved : List Root → List LookedAt → List LookedAt → Type 0
+AreRemoved roots old new =
+    (other : Root) → seen_bytes new other ≡ (if has_root roots other then None else seen_bytes old other)
+
+-- The lane's event came, of which this is so, and what is claimed stays.
+pub record Clears (lane : ℕ) (IsIts : ℕ → Event → Type 0) (old new : LedgerOf) : Type 0 where
+  pub act : Act
+  pub its : IsIts (next_number old) (event_by lane act)
+  pub notes : Notes old lane act new
+  pub claims : new.state.claims ≡ old.state.claims
+
 -- ---- replies
 
 -- why nothing arrives, though nothing failed
@@ -135,3 +168,15 @@ IsRefusal reply = ⊥
 abbrev pub IsBegunAs : BeginEnd → BeginReply → Type 0
 IsBegunAs end reply = (path : NameAndVariant) (choice : Choice) (number : ℕ) (e : Event)
     → Looks (acts.Begin path choice end) e → IsBegun path choice reply number e
+
+abbrev pub IsReadAs : ReadEnd → ReadReply → Type 0
+IsReadAs end reply = (dir : ℕ) (file : List ℕ) (number : ℕ) (e : Event)
+    → Acts (acts.Read dir file end) e → IsRead dir file reply number e
+
+abbrev pub IsCheckedAs : CheckEnd → CheckReply → Type 0
+IsCheckedAs end reply = (dir : ℕ) (file : List ℕ) (number : ℕ) (e : Event)
+    → Acts (acts.Check dir file end) e → IsChecked dir file reply number e
+
+-- a file that is a blob of its own is stored
+abbrev pub IsFileThere : State → ℕ → ℕ → List ℕ → Type 0
+IsFileThere s lane dir file = (root : Root) → found s lane dir file ≡ Outer root → is_stored s.stock root ≡ true

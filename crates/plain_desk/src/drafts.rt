@@ -1,7 +1,7 @@
 //! The bytes that lanes have put under their claims.
 
-ghost use Rattle.std.specs.Prelude.{◌≡◌, ◌+◌, ◌≤◌, ◌++◌, [], length, OnOk, OnErr};
-ghost use Rattle.plain_desk.specs.Stores.{Drafted, draft_of, room_in};
+ghost use Rattle.std.specs.Prelude.{◌≡◌, ◌+◌, ◌≤◌, ◌++◌, [], length, map, option_copied, IfOk, OnOk, OnErr};
+ghost use Rattle.plain_desk.specs.Stores.{Drafted, added, draft_of, draft_with, room_in, without_draft};
 
 use std::alloc::{AllocError, Global};
 use std::marker::Model;
@@ -53,25 +53,30 @@ impl Drafts {
     pub(crate) fn bytes_of(&self, lane: u32) -> &[u8]
         ensures { result.now ≡ draft_of self.now lane }
     {
-        match self.drafts.iter().find(|draft| draft.lane == lane) {
+        match draft_with(&self.drafts, lane) {
             Some(draft) => draft.bytes(),
             None => &[],
+        }
+    }
+
+    /// The room that the lane has.
+    pub(crate) fn room_of(&self, lane: u32) -> usize
+        ensures { result ≡ room_in self.now lane }
+    {
+        match draft_with(&self.drafts, lane) {
+            Some(draft) => draft.room(),
+            None => 0,
         }
     }
 
     /// The lane has room for so many bytes from now on, and has put none.
     pub(crate) fn begin(&mut self, alloc: Global, lane: u32, room: usize) -> Result<(), AllocError>
         ensures ok { OnOk result (Drafted lane room [] self.old self.new) }
-        ensures err { OnErr result (self.new ≡ self.old) }
+        ensures err { OnErr result (Drafted lane 0 [] self.old self.new) }
     {
-        let buffer = vec![in alloc; 0; room]?;
-        self.drafts.reserve(1)?;
         self.end(lane);
-        self.drafts.push_reserved(Draft {
-            lane,
-            buffer,
-            filled: 0,
-        });
+        let draft = Draft::make(alloc, lane, room)?;
+        self.drafts.push(draft)?;
         Ok(())
     }
 
@@ -80,32 +85,65 @@ impl Drafts {
         requires { length (draft_of self.old lane) + length bytes.now ≤ room_in self.old lane }
         ensures { Drafted lane (room_in self.old lane) (draft_of self.old lane ++ bytes.now) self.old self.new }
     {
-        if let Some(place) = self.drafts.iter().position(|draft| draft.lane == lane) {
-            self.drafts[place].add(bytes);
-        }
+        add(&mut self.drafts, lane, bytes);
     }
 
     /// The lane has no room for a blob from now on.
     pub(crate) fn end(&mut self, lane: u32)
-        ensures { Drafted lane 0 [] self.old self.new }
+        ensures list { self.new ≡ without_draft self.old lane }
+        ensures drafted { Drafted lane 0 [] self.old self.new }
     {
         self.drafts.retain(|draft| draft.lane != lane);
     }
 }
 
+fn draft_with(drafts: &[Draft], lane: u32) -> Option<&Draft>
+    ensures { option_copied result ≡ draft_with drafts.now lane }
+{
+    drafts.iter().find(|draft| draft.lane == lane)
+}
+
+fn add(drafts: &mut [Draft], lane: u32, bytes: &[u8])
+    ensures { drafts.new ≡ map (added lane bytes.now) drafts.old }
+{
+    for draft in drafts.iter_mut() {
+        draft.add(lane, bytes);
+    }
+}
+
 impl Draft {
+    // Room without bytes.
+    fn make(alloc: Global, lane: u32, room: usize) -> Result<Draft, AllocError>
+        ensures { IfOk result (λ draft. draft ≡ record { lane = lane; room = room; bytes = [] }) }
+    {
+        let buffer = vec![in alloc; 0; room]?;
+        Ok(Draft {
+            lane,
+            buffer,
+            filled: 0,
+        })
+    }
+
     fn bytes(&self) -> &[u8]
         ensures { result.now ≡ self.now.bytes }
     {
         &self.buffer[..self.filled]
     }
 
-    fn add(&mut self, bytes: &[u8])
-        requires { length self.old.bytes + length bytes.now ≤ self.old.room }
-        ensures { self.new ≡ record self.old { bytes = self.old.bytes ++ bytes.now } }
+    fn room(&self) -> usize
+        ensures { result ≡ self.now.room }
     {
-        let end = self.filled + bytes.len();
-        self.buffer[self.filled..end].copy_from_slice(bytes);
-        self.filled = end;
+        self.buffer.len()
+    }
+
+    // The bytes come behind those that are there, if the draft is the lane's and has room for them.
+    fn add(&mut self, lane: u32, bytes: &[u8])
+        ensures { self.new ≡ added lane bytes.now self.old }
+    {
+        if self.lane == lane && bytes.len() <= self.buffer.len() - self.filled {
+            let end = self.filled + bytes.len();
+            self.buffer[self.filled..end].copy_from_slice(bytes);
+            self.filled = end;
+        }
     }
 }

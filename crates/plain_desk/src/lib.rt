@@ -5,4 +5,6 @@ mod asking;
 mod drafts;
 mod filling;
 mod images;
+mod keeping;
+mod reading;
 mod store;
