@@ -91,9 +91,9 @@ bytes_landed root bytes {old} {new} {stock} are missing is holds = record {
   some_same : {a b : List ℕ} → Some a ≡ Some b → a ≡ b
   some_same e = cc
 
-pub bytes_undone : (root : Root) (bytes : List ℕ) {old mid new : List LookedAt} {stock : List Stored} → AreBytesOf old stock
+pub bytes_undone : (root : Root) (bytes : List ℕ) {old : List LookedAt} (mid : List LookedAt) {new : List LookedAt} {stock : List Stored} → AreBytesOf old stock
     → is_stored stock root ≡ false → Holds root (Some bytes) old mid → Holds root None mid new → AreBytesOf new stock
-bytes_undone root bytes {old} {mid} {new} {stock} are missing put gone = record {
+bytes_undone root bytes {old} mid {new} {stock} are missing put gone = record {
   lengths = λ other. ap (option_map length) (same other) ∙ are.lengths other;
   roots = λ other given there. are.roots other given (sym (same other) ∙ there);
 } where

@@ -1,5 +1,5 @@
 -- The claim of a lane, as the ledger's state has it.
-use Rattle.std.proofs.Common.{◌≡◌, ℕ, ◌≤◌, ◌<◌, ◌+◌, ◌++◌, length, length-append, List, [], arith, Option, Some, None, refl, sym, ap, subst, ◌∙◌}
+use Rattle.std.proofs.Common.{◌≡◌, ℕ, ◌≤◌, ◌<◌, ◌+◌, ◌++◌, length, length-append, List, [], false, arith, Option, Some, None, refl, sym, ap, subst, ◌∙◌}
 use Rattle.std.specs.Prelude.{IsSomeAnd, Result, Ok, Err, IfOk, OnErr, MatchOption}
 use Rattle.std.specs.Option.{option_map}
 use Rattle.pkg_names.specs.declared.root.Root.{Root}
@@ -78,9 +78,9 @@ put_made lane root piece (Some end) is notes over d =
     drafted is notes (bytes_stay is.stored notes refl) d refl (omega arith) (omega arith)
 
 -- a claimed blob isn't stored
-pub unstored : (l : LedgerOf) (root : Root) {P : ClaimEntry → Type 0} → Agrees l → IsSomeAnd (claim_of l.state.claims root) P
+pub unstored : (l : LedgerOf) (root : Root) (P : ClaimEntry → Type 0) → Agrees l → IsSomeAnd (claim_of l.state.claims root) P
     → is_stored l.state.stock root ≡ false
-unstored l root {P} a due = claimed_missing l.state root P (claim_of l.state.claims root) refl due
+unstored l root P a due = claimed_missing l.state root P (claim_of l.state.claims root) refl due
     (subst (λ (s : State). AreClaims s.claims s.stock) (sym a.mirrors.rest) (stand_once l.origin l.history a.legal).claims)
 
 -- why a landing ends, as the model has it

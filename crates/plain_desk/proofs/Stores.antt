@@ -54,7 +54,7 @@ view_at tie lane l fillers = record {
 
 -- ---- what a call does
 
-does_at : (tie : List ℕ) {lane : ℕ} {old new : LedgerOf} (fillers fillers' : Fillers) {act : Act}
+pub does_at : (tie : List ℕ) {lane : ℕ} {old new : LedgerOf} (fillers fillers' : Fillers) {act : Act}
     (IsIts : ℕ → Event → Type 0) → Notes old lane act new → IsIts (next_number old) (event_by lane act)
     → Does (view_at tie lane old fillers) (view_at tie lane new fillers') IsIts
 does_at tie {lane} {old} {new} fillers fillers' {act} IsIts n its =
