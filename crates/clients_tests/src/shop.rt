@@ -60,6 +60,12 @@ impl Shop {
         &self.files
     }
 
+    /// Without the files under this root.
+    pub fn without(mut self, root: Root) -> Shop {
+        self.files.retain(|file| file.root != root);
+        self
+    }
+
     /// The repository, whose calls with these numbers fail.
     pub fn into_repo(self, failing: Vec<u64>) -> MemRepo {
         MemRepo::make(self.listing, self.files, failing)
@@ -73,6 +79,32 @@ fn root_or_none(bytes: &[u8]) -> Root {
     } else {
         Root([0; 32])
     }
+}
+
+/// The text with the digits of the first root in place of each `$0`, and so on.
+pub fn with_roots(alloc: Global, text: &[u8], roots: &[Root]) -> Result<Vec<u8>, AllocError> {
+    let mut out = Vec::new(alloc);
+    let mut is_marked = false;
+    for byte in text {
+        if is_marked {
+            push_root(&mut out, byte.wrapping_sub(b'0') as usize, roots)?;
+            is_marked = false;
+        } else if *byte == b'$' {
+            is_marked = true;
+        } else {
+            out.push(*byte)?;
+        }
+    }
+    Ok(out)
+}
+
+// Puts the digits of a root last.
+fn push_root(out: &mut Vec<u8>, place: usize, roots: &[Root]) -> Result<(), AllocError> {
+    let mut text = [0u8; 64];
+    if let Some(root) = roots.get(place) {
+        write_root(root, &mut text);
+    }
+    out.extend_from_slice(&text)
 }
 
 /// Puts a line of contents last.

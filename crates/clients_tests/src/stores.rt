@@ -4,6 +4,7 @@ ghost use Rattle.std.specs.Prelude.{◌≡◌, None, IfOk};
 ghost use Rattle.store_model.specs.Holding.{held, nothing_held};
 ghost use Rattle.store_model.specs.History.{of_lane};
 
+use crate::shop::Shop;
 use abr_record::{Record, SlotRecord};
 use image_layout::{Geometry, ImageSum, Sys};
 use pkg_merkle::BYTES_LIMIT;
@@ -67,13 +68,22 @@ pub fn store_of(alloc: Global, files: &[RepoFile], root: Root) -> Result<Store, 
     };
     match Store::open(alloc, geometry, standing, contents)? {
         Opening::Booted(store) => Ok(store),
-        _ => Err(Fail),
+        _ => Err(Fail::new("no boot")),
     }
+}
+
+/// The store that has the system package of an empty list, and runs it.
+pub fn base_store(alloc: Global) -> Result<Store, Fail>
+    ensures { IfOk result (λ store. held (of_lane 1 store.history) ≡ nothing_held) }
+{
+    let mut base = Shop::new(alloc);
+    let root = base.package(b"system_image", &[(b"data/static_packages".as_slice(), b"".as_slice())])?;
+    store_of(alloc, base.files(), root)
 }
 
 fn put(alloc: Global, blobs: &mut StoredBlobs, file: &RepoFile) -> Result<(), Fail> {
     if file.bytes.as_slice().len() > BYTES_LIMIT {
-        return Err(Fail);
+        return Err(Fail::new("no blob"));
     }
     blobs.put(file.bytes.try_copy(alloc)?)?;
     Ok(())
