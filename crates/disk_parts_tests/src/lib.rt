@@ -2,6 +2,9 @@
 #![tactic(auto)]
 
 pub mod entries;
+#[cfg(test)]
+mod slot_tests;
+pub mod slots;
 pub mod tables;
 #[cfg(test)]
 mod tests;

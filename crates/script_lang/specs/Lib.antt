@@ -1,2 +1,5 @@
 pub mod Ends
+pub mod Requests
+pub mod Scripts
+pub mod Spelling
 pub mod Text

@@ -12,11 +12,9 @@ use Rattle.image_layout.specs.declared.ImageKind.{ImageKind}
 use Rattle.image_layout.specs.declared.ImageSum.{ImageSum}
 use Rattle.image_layout.specs.declared.Sys.{Sys}
 use Rattle.image_layout.specs.Sums.{image_sum}
-use Rattle.slot_disk.specs.declared.part.Parts.{Parts}
-use Rattle.slot_disk.specs.Filling.{Images, HoldsImages, AreFilled}
 use Rattle.image_layout.specs.Geometry.{IsIn, slot_region}
 use Rattle.slot_disk.specs.Areas.{area_region, header_page}
-use Rattle.slot_disk.specs.Slots.{SlotsView, with_boot, with_sys, with_broken, is_needed, HasSystem, NamesSystem, HasRecord, HasNeeded, Has, Fits, IsSlotsPage, recovery_system}
+use Rattle.slot_disk.specs.Slots.{SlotsView, with_boot, with_sys, with_broken, is_needed, HasRecord, HasNeeded, Has, Fits, IsSlotsPage, recovery_system}
 use Rattle.slot_disk.proofs.SystemLemmas.{slots_apart, behind_record, header_within, area_within}
 use Rattle.slot_disk.proofs.Standing.{needed_depends, needed_boot, has_outside, has_with_sys, has_broken}
 
@@ -95,17 +93,6 @@ area_same g h slot other kind old new e f only =
 pub header_same : (g h : Geometry) (slot other : Slot) (old new : Option Past) → g ≡ h → slot ≡ other → WritesOnly old new (IsInRow (header_page g slot) 1) → WritesOnly old new (IsInRow (header_page h other) 1)
 header_same g h slot other old new e f only =
     subst (λ (k : Geometry). WritesOnly old new (IsInRow (header_page k other) 1)) e (subst (λ (k : Slot). WritesOnly old new (IsInRow (header_page g k) 1)) f only)
-
-abbrev pub SealsLast : Option Past → Option Past → Sys → Geometry → Slot → Parts → Type 0
-SealsLast old new sys g slot parts =
-    (images : Images) → HoldsImages parts images → AreFilled old g slot images → EachImage old (λ image. NamesSystem g slot sys image → ⊥)
-    → AtEach old new (λ image. NamesSystem g slot sys image → HasSystem g slot sys image)
-
-pub seals_same : (old new : Option Past) (sys : Sys) (g h : Geometry) (slot other : Slot) (parts more : Parts) → g ≡ h → slot ≡ other → parts ≡ more → SealsLast old new sys g slot parts → SealsLast old new sys h other more
-seals_same old new sys g h slot other parts more e f p last =
-    subst (λ (k : Geometry). SealsLast old new sys k other more) e
-    (subst (λ (k : Slot). SealsLast old new sys g k more) f
-    (subst (λ (k : Parts). SealsLast old new sys g slot k) p last))
 
 -- ---- recovery
 

@@ -1,33 +1,30 @@
 -- What the writes of a record, of a piece and of a seal make of the images of a disk.
-use Rattle.std.proofs.Common.{◌≡◌, ◌⊎◌, ℕ, ◌+◌, ◌/◌, ◌%◌, ◌<◌, ◌≤◌, List, [], ◌++◌, length, take, drop, set, sym, ◌∙◌, ap, subst, inl, inr, arith, length-append, get_or-set_same, get_or-set_other, take-add, append_assoc, Option, IfSome}
+use Rattle.std.proofs.Common.{◌≡◌, ◌⊎◌, ℕ, ◌+◌, ◌/◌, ◌%◌, ◌<◌, ◌≤◌, List, [], ◌∷◌, ◌++◌, length, take, drop, refl, sym, ◌∙◌, ap, subst, inl, inr, arith, length-append, get_or-set_same, take-add, append_assoc, Option, Some, None, IfSome}
 use Rattle.abr_record.specs.declared.Slot.{Slot}
 use Rattle.abr_record.specs.declared.Slot.TheVariants.{A, B, R}
 use Rattle.abr_record.specs.declared.Record.{Record}
+use Rattle.disk_model.specs.declared.act.DiskAct.{DiskAct}
 use Rattle.disk_model.specs.declared.act.DiskAct.TheVariants.{Wrote, Synced}
 use Rattle.disk_model.specs.Past.{Page, Pages, page_at, Past, IsPast, with_act}
-use Rattle.disk_model.specs.Images.{EachImage, AtEach, IsWritten, AllWritten, WritesOnly, IsInRow}
-use Rattle.disk_model.proofs.Moments.{Tried, Ended, each_weaker, each_both, each_write, each_sync, written, settled, at_start, at_write, at_sync}
-use Rattle.disk_model.proofs.Regions.{writes_write, writes_then, writes_wider}
-use Rattle.disk_model.proofs.ManyPages.{all_written_more, all_written_outside, all_settled}
+use Rattle.disk_model.specs.Images.{EachImage, AtEach, IsWritten, IsSettled, AllWritten, SettlesOthers, WritesOnly, IsInRow, with_acts}
+use Rattle.disk_model.proofs.Moments.{Tried, Ended, each_weaker, each_both, each_write, written, settled, at_start, at_write, at_sync}
+use Rattle.disk_model.proofs.Regions.{writes_then, writes_wider}
+use Rattle.disk_model.proofs.ManyPages.{all_written_more, all_written_outside}
 use Rattle.image_layout.specs.declared.geometry.Geometry.{Geometry}
 use Rattle.image_layout.specs.declared.geometry.TheConstants.{RECORD_PAGE}
 use Rattle.image_layout.specs.declared.ImageKind.{ImageKind}
 use Rattle.image_layout.specs.declared.ImageKind.TheVariants.{Zbi, Vbmeta}
+use Rattle.image_layout.specs.declared.ImageSum.{ImageSum}
 use Rattle.image_layout.specs.declared.Sys.{Sys}
+use Rattle.image_layout.specs.Sums.{image_sum}
 use Rattle.image_layout.specs.Geometry.{IsIn, slot_region, total_pages}
 use Rattle.slot_disk.specs.declared.part.Parts.{Parts}
 use Rattle.slot_disk.specs.Areas.{area_pages, area_start, area_region, area_size, header_page}
 use Rattle.slot_disk.specs.Header.{IsHeader, record_on}
-use Rattle.slot_disk.specs.Slots.{HasImage, HasSystem, NamesSystem, HasRecord}
+use Rattle.slot_disk.specs.Slots.{HasImage, HasSystem, HasRecord}
 use Rattle.slot_disk.specs.Filling.{Images, part_of, no_images, with_piece, page_of, page_count, HoldsBytes, HoldsImages, AreWritten, AreOf, IsFilled, AreFilled}
 use Rattle.slot_disk.proofs.PageLemmas.{page_of-same}
-use Rattle.slot_disk.proofs.SystemLemmas.{image_depends, area_behind, area_within, areas_apart, settled_image}
-
--- ---- one page
-
--- a write of a page of a row of one page
-pub one_write : (n k : ℕ) (page : Page) (start old new : Option Past) → k ≡ n → Tried k page old new → WritesOnly start old (IsInRow n 1) → WritesOnly start new (IsInRow n 1)
-one_write n k page start old new e tried only = writes_write (IsInRow n 1) k page start old new (record { from = omega (arith, e); below = omega (arith, e) }) tried only
+use Rattle.slot_disk.proofs.SystemLemmas.{area_behind, area_within, areas_apart, settled_image}
 
 -- ---- the record
 
@@ -133,59 +130,26 @@ header_total g A = omega arith
 header_total g B = omega arith
 header_total g R = omega arith
 
-module _ (g : Geometry) (slot : Slot) (sys : Sys) where
-  abbrev pub HasBoth : Pages → Type 0
-  HasBoth image = HasImage g slot Zbi sys.zbi image × HasImage g slot Vbmeta sys.vbmeta image
+-- what was written of the image and settled by a sync behind the header
+image_done : (g : Geometry) (slot : Slot) (kind : ImageKind) (bytes : List ℕ) (sum : ImageSum) (count : ℕ) (old new : Option Past) → total_pages g ≤ count → image_sum bytes ≡ sum → IsFilled old g slot kind bytes → SettlesOthers old new (IsInRow (header_page g slot) 1) count → EachImage new (HasImage g slot kind sum)
+image_done g slot kind bytes sum count old new room are filled others =
+    settled_image g slot kind bytes sum new filled.room are
+    (λ i lt. others (area_start g slot kind + i) (page_of bytes i) (omega (arith, lt, filled.room, area_total g slot kind, room)) (λ row. omega (arith, row.below, area_behind g slot kind)) (filled.written i lt))
 
-  -- the images are settled by a sync
-  pub both_settled : (images : Images) (count : ℕ) (p0 p1 : Option Past) → total_pages g ≤ count → IfSome p0 (IsPast count) → AreOf sys images → AreFilled p0 g slot images → p1 ≡ with_act p0 Synced → EachImage p1 HasBoth
-  both_settled images count p0 p1 room fits are filled synced =
-      each_both (HasImage g slot Zbi sys.zbi) (HasImage g slot Vbmeta sys.vbmeta) p1
-      (settled_image g slot Zbi images.zbi sys.zbi p1 filled.zbi.room are.zbi
-      (all_settled (λ i. area_start g slot Zbi + i) (page_of images.zbi) (page_count (length images.zbi)) count p0 p1 (λ i lt. omega (arith, lt, filled.zbi.room, area_total g slot Zbi, room)) fits synced filled.zbi.written))
-      (settled_image g slot Vbmeta images.vbmeta sys.vbmeta p1 filled.vbmeta.room are.vbmeta
-      (all_settled (λ i. area_start g slot Vbmeta + i) (page_of images.vbmeta) (page_count (length images.vbmeta)) count p0 p1 (λ i lt. omega (arith, lt, filled.vbmeta.room, area_total g slot Vbmeta, room)) fits synced filled.vbmeta.written))
+-- A page that names the system is settled as the header, and the images with it.
+pub seal_done : (g : Geometry) (slot : Slot) (sys : Sys) (images : Images) (page : Page) (count : ℕ) (old new : Option Past) → total_pages g ≤ count → IsHeader page sys → AreOf sys images → AreFilled old g slot images → SettlesOthers old new (IsInRow (header_page g slot) 1) count → IsSettled new (header_page g slot) page → EachImage new (HasSystem g slot sys)
+seal_done g slot sys images page count old new room is are filled others header =
+    let Zbis : Pages → Type 0 = HasImage g slot Zbi sys.zbi in
+    let Vbmetas : Pages → Type 0 = HasImage g slot Vbmeta sys.vbmeta in
+    let Heads : Pages → Type 0 = λ image. page_at image (header_page g slot) ≡ page in
+    each_weaker (λ image. Heads image × (Zbis image × Vbmetas image)) (HasSystem g slot sys) new
+    (λ image has. record { header = subst (λ (p : Page). IsHeader p sys) (sym has.0) is; zbi = has.1.0; vbmeta = has.1.1 })
+    (each_both Heads (λ image. Zbis image × Vbmetas image) new header
+    (each_both Zbis Vbmetas new (image_done g slot Zbi images.zbi sys.zbi count old new room are.zbi filled.zbi others) (image_done g slot Vbmeta images.vbmeta sys.vbmeta count old new room are.vbmeta filled.vbmeta others)))
 
-  -- a write of the header leaves them
-  both_stay : (image : Pages) (page : Page) → HasBoth image → HasBoth (set image (header_page g slot) page)
-  both_stay image page both =
-      let n : ℕ = header_page g slot in
-      let same = λ (m : ℕ) (behind : n < m). sym (get_or-set_other image n m page [] (λ e. omega (arith, e, behind))) in (
-        image_depends g slot Zbi sys.zbi image (set image n page) (λ m low high. same m (omega (arith, low, area_behind g slot Zbi))) both.0,
-        image_depends g slot Vbmeta sys.vbmeta image (set image n page) (λ m low high. same m (omega (arith, low, area_behind g slot Vbmeta))) both.1,
-      )
+-- ---- the acts
 
-  abbrev pub Later : Pages → Type 0
-  Later image = NamesSystem g slot sys image → HasSystem g slot sys image
-
-  -- no image names the system before it has it
-  later_start : (p0 : Option Past) → EachImage p0 (λ image. NamesSystem g slot sys image → ⊥) → AtEach p0 p0 Later
-  later_start p0 none = at_start Later p0 (each_weaker (λ image. NamesSystem g slot sys image → ⊥) Later p0 (λ image not names. absurd (not names)) none)
-
-  pub later_sync : (p0 p1 : Option Past) → EachImage p0 (λ image. NamesSystem g slot sys image → ⊥) → Ended p0 p1 → AtEach p0 p1 Later
-  later_sync p0 p1 none ended = at_sync Later p0 p0 p1 (later_start p0 none) ended
-
-  module _ (page : Page) (is : IsHeader page sys) where
-    headed : (image : Pages) → page_at image (header_page g slot) ≡ page → HasBoth image → HasSystem g slot sys image
-    headed image e both = record { header = subst (λ (p : Page). IsHeader p sys) (sym e) is; zbi = both.0; vbmeta = both.1 }
-
-    -- then the header is written and settled
-    pub seal_done : (n count : ℕ) (p1 p2 p3 : Option Past) → n ≡ header_page g slot → total_pages g ≤ count → IfSome p2 (IsPast count) → EachImage p1 HasBoth → p2 ≡ with_act p1 (Wrote n page) → p3 ≡ with_act p2 Synced → EachImage p3 (HasSystem g slot sys)
-    seal_done n count p1 p2 p3 e room fits both wrote_n synced =
-        let h : ℕ = header_page g slot in
-        let wrote : p2 ≡ with_act p1 (Wrote h page) = subst (λ (k : ℕ). p2 ≡ with_act p1 (Wrote k page)) e wrote_n in
-        let each2 : EachImage p2 HasBoth = each_write HasBoth HasBoth h page p1 p2 (inl wrote) both (λ image b. b) (λ image lt b. both_stay image page b) in
-        each_weaker (λ image. HasBoth image × (page_at image h ≡ page)) (HasSystem g slot sys) p3 (λ image b. headed image b.1 b.0)
-        (each_both HasBoth (λ image. page_at image h ≡ page) p3 (each_sync HasBoth p2 p3 (inl synced) each2)
-        (settled h page count p2 p3 (omega (arith, header_total g slot, room)) fits (written h page p1 p2 wrote) synced))
-
-    pub later_seal : (n : ℕ) (p0 p1 p2 p3 : Option Past) → n ≡ header_page g slot → EachImage p0 (λ image. NamesSystem g slot sys image → ⊥) → EachImage p1 HasBoth → Ended p0 p1 → Tried n page p1 p2 → Ended p2 p3 → AtEach p0 p3 Later
-    later_seal n p0 p1 p2 p3 e none both first tried_n last =
-        let h : ℕ = header_page g slot in
-        let Not : Pages → Type 0 = λ image. NamesSystem g slot sys image → ⊥ in
-        let tried : Tried h page p1 p2 = subst (λ (k : ℕ). Tried k page p1 p2) e tried_n in
-        let each2 : EachImage p2 Later =
-        each_write (λ image. HasBoth image × Not image) Later h page p1 p2 tried (each_both HasBoth Not p1 both (each_sync Not p0 p1 first none))
-        (λ image b names. absurd (b.1 names))
-        (λ image lt b names. headed (set image h page) (get_or-set_same image h page [] lt) (both_stay image page b.0)) in
-        at_sync Later p0 p2 p3 (at_write Later h page p0 p1 p2 (later_sync p0 p1 none first) tried each2) last
+-- a write and a sync, as a list of acts
+pub two_acts : (told : Option Past) (a b : DiskAct) → with_act (with_act told a) b ≡ with_acts told (a ∷ b ∷ [])
+two_acts None a b = refl
+two_acts (Some past) a b = ap (λ (trail : List DiskAct). let p : Past = record { start = past.start; trail = trail } in Some p) (append_assoc past.trail (a ∷ []) (b ∷ []))

@@ -1,12 +1,13 @@
 -- The record and the slots of an image, and what the calls make of them.
-use Rattle.std.specs.Prelude.{ℕ, ◌≡◌, ◌⊎◌, ◌≤◌, ⊤, Bool, true, false, List, replicate, Option, Some, None, is_some, IsSomeAnd}
+use Rattle.std.specs.Prelude.{ℕ, ◌≡◌, ◌⊎◌, ◌≤◌, ⊤, Bool, true, false, List, [], ◌∷◌, replicate, Option, Some, None, is_some, IsSomeAnd}
 use Rattle.sha2.specs.Sha256.{sha256}
 use Rattle.abr_record.specs.declared.Slot.{Slot}
 use Rattle.abr_record.specs.declared.Slot.TheVariants.{A, B, R}
 use Rattle.abr_record.specs.declared.Record.{Record}
 use Rattle.abr_record.specs.Boot.{is_bootable}
-use Rattle.disk_model.specs.Past.{Pages, page_at, Past}
-use Rattle.disk_model.specs.Images.{EachImage, SomeImage}
+use Rattle.disk_model.specs.declared.act.DiskAct.TheVariants.{Wrote, Synced}
+use Rattle.disk_model.specs.Past.{Page, Pages, page_at, Past}
+use Rattle.disk_model.specs.Images.{EachImage, SomeImage, with_acts}
 use Rattle.image_layout.specs.declared.geometry.Geometry.{Geometry}
 use Rattle.image_layout.specs.declared.geometry.TheConstants.{RECORD_PAGE}
 use Rattle.image_layout.specs.declared.ImageKind.{ImageKind}
@@ -59,10 +60,6 @@ pub record HasSystem (g : Geometry) (slot : Slot) (sys : Sys) (image : Pages) : 
   pub zbi : HasImage g slot Zbi sys.zbi image
   pub vbmeta : HasImage g slot Vbmeta sys.vbmeta image
 
--- the header of the slot names this system, whatever the images are
-abbrev pub NamesSystem : Geometry → Slot → Sys → Pages → Type 0
-NamesSystem g slot sys image = IsHeader (page_at image (header_page g slot)) sys
-
 -- header and images of the slot are good
 abbrev pub IsGood : Geometry → Slot → Pages → Type 0
 IsGood g slot image = (sys : Sys) × HasSystem g slot sys image
@@ -112,6 +109,10 @@ KnowsNeeded slots = (slot : Slot) → is_some (sys_of slots slot) ≡ is_needed 
 abbrev pub HasCause : Option Past → Geometry → SlotFault → Type 0
 HasCause told g Read = ⊤
 HasCause told g (Damaged slot) = SomeImage told (IsDamaged g slot)
+
+-- this page was written once, with bytes that have P, and then synced; nothing else was done
+abbrev pub SettlesPage : ℕ → (Page → Type 0) → Option Past → Option Past → Type 0
+SettlesPage n P old new = (page : Page) × P page × (new ≡ with_acts old (Wrote n page ∷ Synced ∷ []))
 
 -- the pages that say what is seen of these slots: the record page, and each slot that has to be good
 abbrev pub IsSlotsPage : SlotsView → ℕ → Type 0

@@ -6,7 +6,8 @@ ghost use Rattle.disk_model.specs.Images.{EachImage, SomeImage, AtEach, WritesOn
 ghost use Rattle.image_layout.specs.declared.geometry.TheConstants.{RECORD_PAGE};
 ghost use Rattle.image_layout.specs.Geometry.{IsWithinLimits, IsIn, slot_region, total_pages};
 ghost use Rattle.slot_disk.specs.Areas.{area_size, area_region, header_page};
-ghost use Rattle.slot_disk.specs.Slots.{sys_of, with_sys, is_needed, HasSystem, NamesSystem, HasRecord, HasNeeded, Has, Fits, HaveOneView, KnowsNeeded, HasCause, with_boot, after_record, after_recovery, recovery_system, new_slots};
+ghost use Rattle.slot_disk.specs.Header.{IsHeader, record_on};
+ghost use Rattle.slot_disk.specs.Slots.{sys_of, with_sys, is_needed, HasSystem, HasRecord, HasNeeded, Has, Fits, HaveOneView, KnowsNeeded, HasCause, with_boot, after_record, after_recovery, recovery_system, new_slots, SettlesPage};
 ghost use Rattle.slot_disk.specs.Filling.{Images, part_of, no_images, with_piece, IsFillingOf, OtherStays, AreFilled, Judges, after_append, after_seal, filling_after_seal};
 
 use crate::answers::{SealEnd, SlotEnd, SlotFault};
@@ -62,6 +63,8 @@ impl Slots {
         requires room { total_pages geometry.now ≤ D.pages disk.old }
         ensures value { IfOk result (λ slots. slots ≡ new_slots geometry.now value.now) }
         ensures settled { OnOk result (EachImage (D.past disk.new) (HasRecord value.now)) }
+        ensures order { OnOk result (SettlesPage RECORD_PAGE (λ page. record_on page ≡ value.now)
+            (D.past disk.old) (D.past disk.new)) }
         ensures only { WritesOnly (D.past disk.old) (D.past disk.new) (IsInRow RECORD_PAGE 1) }
         ensures pages_stay { D.pages disk.new ≡ D.pages disk.old }
         ensures tie_stays { D.tie disk.new ≡ D.tie disk.old }
@@ -124,6 +127,8 @@ impl Slots {
             HasRecord self.old.boot image ⊎ HasRecord value.now image) }
         ensures record_done { result ≡ SlotEnd.Done
             → EachImage (D.past disk.new) (HasRecord value.now) }
+        ensures order { result ≡ SlotEnd.Done → SettlesPage RECORD_PAGE
+            (λ page. record_on page ≡ value.now) (D.past disk.old) (D.past disk.new) }
 
         // all that is seen of an image, where the slots that the new record needs have their systems
         ensures each_moment { Fits (D.past disk.old) self.old
@@ -223,8 +228,8 @@ impl Slots {
         }
     }
 
-    /// Seals the slot that was filled with a system: compares the images with it, syncs them, and then
-    /// writes the header and syncs.
+    /// Seals the slot that was filled with a system: compares the images with it, writes the header and
+    /// syncs. The one sync settles images and header together.
     pub fn seal<D: Disk>(&mut self, disk: &mut D, filling: &mut Filling, sys: &Sys) -> SealEnd
         requires unbroken { self.old.broken ≡ false }
         requires whole { filling.old.broken ≡ false }
@@ -242,13 +247,8 @@ impl Slots {
             → (images : Images) → IsFillingOf filling.old images
             → AreFilled (D.past disk.old) self.old.geometry filling.old.slot images
             → EachImage (D.past disk.new) (HasSystem self.old.geometry filling.old.slot sys.now) }
-        ensures header_last { (images : Images) → IsFillingOf filling.old images
-            → AreFilled (D.past disk.old) self.old.geometry filling.old.slot images
-            → EachImage (D.past disk.old)
-            (λ image. NamesSystem self.old.geometry filling.old.slot sys.now image → ⊥)
-            → AtEach (D.past disk.old) (D.past disk.new) (λ image.
-            NamesSystem self.old.geometry filling.old.slot sys.now image
-            → HasSystem self.old.geometry filling.old.slot sys.now image) }
+        ensures order { result ≡ SealEnd.Sealed → SettlesPage (header_page self.old.geometry filling.old.slot)
+            (λ page. IsHeader page sys.now) (D.past disk.old) (D.past disk.new) }
 
         ensures each_moment { Fits (D.past disk.old) self.old
             → AtEach (D.past disk.old) (D.past disk.new) (Has self.old) }
@@ -283,7 +283,7 @@ impl Slots {
         }
     }
 
-    /// Writes recovery: its images, a sync, its header and a sync. There need not be a super page yet.
+    /// Writes recovery: its images, its header and a sync. There need not be a super page yet.
     pub fn write_recovery<D: Disk>(&mut self, disk: &mut D, zbi: &[u8], vbmeta: &[u8]) -> SlotEnd
         requires unbroken { self.old.broken ≡ false }
         requires room { total_pages self.old.geometry ≤ D.pages disk.old }

@@ -8,14 +8,15 @@ ghost use Rattle.image_layout.specs.declared.geometry.TheConstants.{RECORD_PAGE}
 ghost use Rattle.image_layout.specs.Geometry.{IsWithinLimits, total_pages};
 ghost use Rattle.abr_record.specs.declared.Record.{Record as RecordOf};
 ghost use Rattle.slot_disk.specs.Areas.{header_page};
-ghost use Rattle.slot_disk.specs.Slots.{HasRecord, HasSystem, NamesSystem};
+ghost use Rattle.slot_disk.specs.Header.{IsHeader, record_on};
+ghost use Rattle.slot_disk.specs.Slots.{HasRecord, HasSystem, SettlesPage};
 ghost use Rattle.slot_disk.specs.Filling.{Images, page_of, page_count, HoldsBytes, AreWritten, AreOf, AreFilled};
 
 use crate::header::write_header;
 use crate::part::{Part, put_next, turn};
 use crate::record_page::write_record;
 use abr_record::{Record, Slot};
-use disk_model::{Disk, DiskFailed};
+use disk_model::{Disk, DiskFailed, settle_pages};
 use image_layout::{Geometry, RECORD_PAGE, Sys, slot_start};
 use sha2::Digest;
 
@@ -23,6 +24,8 @@ use sha2::Digest;
 pub(crate) fn settle_record<D: Disk>(disk: &mut D, value: &Record) -> Result<(), DiskFailed>
     requires { RECORD_PAGE < D.pages disk.old }
     ensures done { OnOk result (EachImage (D.past disk.new) (HasRecord value.now)) }
+    ensures order { OnOk result (SettlesPage RECORD_PAGE (λ page. record_on page ≡ value.now)
+        (D.past disk.old) (D.past disk.new)) }
     ensures only { WritesOnly (D.past disk.old) (D.past disk.new) (IsInRow RECORD_PAGE 1) }
     ensures each_moment { (before : RecordOf) → EachImage (D.past disk.old) (HasRecord before)
         → AtEach (D.past disk.old) (D.past disk.new) (λ image.
@@ -142,7 +145,7 @@ pub(crate) fn add_piece<D: Disk>(
     Ok(())
 }
 
-/// Syncs the images of a slot, and then writes its header and syncs.
+/// Writes the header of a slot and syncs, which settles its images too.
 pub(crate) fn seal_slot<D: Disk>(
     disk: &mut D,
     geometry: &Geometry,
@@ -154,11 +157,8 @@ pub(crate) fn seal_slot<D: Disk>(
     ensures sealed { OnOk result ((images : Images) → AreOf sys.now images
         → AreFilled (D.past disk.old) geometry.now slot images
         → EachImage (D.past disk.new) (HasSystem geometry.now slot sys.now)) }
-    ensures each_moment { (images : Images) → AreOf sys.now images
-        → AreFilled (D.past disk.old) geometry.now slot images
-        → EachImage (D.past disk.old) (λ image. NamesSystem geometry.now slot sys.now image → ⊥)
-        → AtEach (D.past disk.old) (D.past disk.new) (λ image.
-        NamesSystem geometry.now slot sys.now image → HasSystem geometry.now slot sys.now image) }
+    ensures order { OnOk result (SettlesPage (header_page geometry.now slot)
+        (λ page. IsHeader page sys.now) (D.past disk.old) (D.past disk.new)) }
     ensures only { WritesOnly (D.past disk.old) (D.past disk.new)
         (IsInRow (header_page geometry.now slot) 1) }
     ensures pages_stay { D.pages disk.new ≡ D.pages disk.old }
@@ -168,10 +168,7 @@ pub(crate) fn seal_slot<D: Disk>(
     ensures told { IfSome (D.past disk.new) (IsPast (D.pages disk.new)) }
     ensures cause { OnErr result (Rose (D.faults disk.old) (D.faults disk.new)) }
 {
-    let _count = disk.pages();
     let header = write_header(sys);
-    disk.sync()?;
-    disk.write(slot_start(geometry, slot), &header)?;
-    disk.sync()?;
+    settle_pages(disk, slot_start(geometry, slot), &[header])?;
     Ok(())
 }

@@ -1,29 +1,13 @@
-use Rattle.std.proofs.Common.{Option, refl, inr, sym, ◌∙◌, ap, subst}
+use Rattle.std.proofs.Common.{sym, ◌∙◌, ap, subst}
 use Rattle.abr_record.specs.declared.Slot.{Slot}
 use Rattle.disk_model.proofs.Moments.{at_start}
-use Rattle.slot_disk.specs.declared.part.Difference.{Difference}
 use Rattle.slot_disk.specs.Slots.{SlotsView, with_sys, with_broken, Has, Fits}
-use Rattle.slot_disk.specs.Filling.{FillingView, Finds}
-use Rattle.slot_disk.proofs.WriteSteps.{later_sync}
-use Rattle.slot_disk.proofs.SlotSteps.{header_same, seals_same, seal_stays, seal_fits, broken_fits}
+use Rattle.slot_disk.specs.Filling.{FillingView}
+use Rattle.slot_disk.proofs.SlotSteps.{header_same, seal_stays, seal_fits, broken_fits}
 use Rattle.slot_disk.proofs.slots.Slots.seal.Goals as goal
-
-pub returns-in-Some-clause-header_last : goal.returns-in-Some-clause-header_last
-returns-in-Some-clause-header_last g c = λ images holds filled none.
-    let told = g.D.Disk.past c.args.disk.now in
-    later_sync c.args.self.now.geometry c.args.filling.now.slot c.args.sys.now told told none (inr refl)
 
 pub returns-in-Some-clause-each_moment : goal.returns-in-Some-clause-each_moment
 returns-in-Some-clause-each_moment g c = λ fits. at_start (Has c.args.self.now) (g.D.Disk.past c.args.disk.now) fits
-
-pub returns-in-Ok-clause-header_last : goal.returns-in-Ok-clause-header_last
-returns-in-Ok-clause-header_last g c =
-    let s = c.args.self.now in
-    let f = c.args.filling.now in
-    let sys = c.args.sys.now in
-    seals_same (g.D.Disk.past c.args.disk.now) (g.D.Disk.past c.seal_slot.new.disk) sys c.self.inside.geometry s.geometry c.filling.inside.slot f.slot c.filling.inside.parts f.parts
-    (ap (λ (v : SlotsView). v.geometry) c.self.view_is) (ap (λ (v : FillingView). v.slot) c.filling.view_is) (ap (λ (v : FillingView). v.parts) c.filling.view_is)
-    (λ images holds filled none. c.seal_slot.ensures.each_moment images (subst (λ (o : Option Difference). Finds sys images o) c.in_default.is (c.judge.ensures images holds)) filled none)
 
 pub returns-in-Ok-clause-each_moment : goal.returns-in-Ok-clause-each_moment
 returns-in-Ok-clause-each_moment g c = λ fits.
@@ -45,15 +29,6 @@ returns-in-Ok-clause-fits g c = λ fits.
     let only = header_same c.self.inside.geometry s.geometry c.filling.inside.slot slot old new (ap (λ (v : SlotsView). v.geometry) c.self.view_is) slot_is c.seal_slot.ensures.only in
     let after = c.put_system.ensures ∙ ap (λ (k : Slot). with_sys k sys s) slot_is in
     subst (λ (v : SlotsView). Fits new v) (sym after) (seal_fits s slot sys old new c.requires.unneeded fits only)
-
-pub returns-in-Err-clause-header_last : goal.returns-in-Err-clause-header_last
-returns-in-Err-clause-header_last g c =
-    let s = c.args.self.now in
-    let f = c.args.filling.now in
-    let sys = c.args.sys.now in
-    seals_same (g.D.Disk.past c.args.disk.now) (g.D.Disk.past c.seal_slot.new.disk) sys c.self.inside.geometry s.geometry c.filling.inside.slot f.slot c.filling.inside.parts f.parts
-    (ap (λ (v : SlotsView). v.geometry) c.self.view_is) (ap (λ (v : FillingView). v.slot) c.filling.view_is) (ap (λ (v : FillingView). v.parts) c.filling.view_is)
-    (λ images holds filled none. c.seal_slot.ensures.each_moment images (subst (λ (o : Option Difference). Finds sys images o) c.in_default.is (c.judge.ensures images holds)) filled none)
 
 pub returns-in-Err-clause-each_moment : goal.returns-in-Err-clause-each_moment
 returns-in-Err-clause-each_moment g c = λ fits.

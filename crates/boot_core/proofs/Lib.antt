@@ -1,0 +1,6 @@
+mod Named
+mod Entries
+mod Alike
+mod Told
+mod SlotLemmas
+mod Complete

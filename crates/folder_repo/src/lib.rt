@@ -1,0 +1,13 @@
+//! A repository in a folder of the host: its listing, and its blobs by their roots.
+//!
+//! `docs/repositories.md` of the repository tells what such a folder has.
+#![tactic(auto)]
+
+mod folder;
+mod listing;
+
+pub use folder::DirRepo;
+pub use listing::DirFault;
+
+#[cfg(test)]
+mod tests;

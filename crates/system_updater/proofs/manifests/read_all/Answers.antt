@@ -1,0 +1,25 @@
+use Rattle.std.proofs.Common.{◌≡◌, Result, Err, ap, sym, rules}
+use Rattle.system_updater.specs.declared.manifests.Refusal.{Refusal}
+use Rattle.system_updater.specs.declared.plan.Plan.{Plan}
+use Rattle.system_updater.specs.Serving.Point.{Staging}
+use Rattle.system_updater.specs.Steps.{or_refused}
+use Rattle.system_updater.proofs.Goes.{goes_then, goes_to}
+use Rattle.system_updater.proofs.manifests.read_all.Goals as goal
+
+pub returns-in_err-packages-clause-goes : goal.returns-in_err-packages-clause-goes
+returns-in_err-packages-clause-goes g c = λ repo.
+    let same : Err c.in_err-packages.field-0.0 ≡ c.from_residual-in_err-packages.result = search rules in
+    goes_to _ _ _ _ _ repo repo _ _ (ap (or_refused (Staging c.args.dir) c.args.dir) same)
+    (goes_then _ _ _ _ _ _ repo repo repo _ _ _ (c.in_ok-epoch.ensures repo) (c.in_err-packages.ensures.goes c.in_ok-epoch.epoch repo))
+
+pub returns-in_err-images-clause-goes : goal.returns-in_err-images-clause-goes
+returns-in_err-images-clause-goes g c = λ repo.
+    let same : Err c.in_err-images.field-0.0 ≡ c.from_residual-in_err-images.result = search rules in
+    goes_to _ _ _ _ _ repo repo _ _ (ap (or_refused (Staging c.args.dir) c.args.dir) same)
+    (goes_then _ _ _ _ _ _ repo repo repo _ _ _ (goes_then _ _ _ _ _ _ repo repo repo _ _ _ (c.in_ok-epoch.ensures repo) (c.in_ok-packages.ensures.goes c.in_ok-epoch.epoch repo))
+    (c.in_err-images.ensures c.in_ok-epoch.epoch c.in_ok-packages.packages repo))
+
+pub returns-clause-goes : goal.returns-clause-goes
+returns-clause-goes g c = λ repo.
+    goes_then _ _ _ _ _ _ repo repo repo _ _ _ (goes_then _ _ _ _ _ _ repo repo repo _ _ _ (c.in_ok-epoch.ensures repo) (c.in_ok-packages.ensures.goes c.in_ok-epoch.epoch repo))
+    (c.in_ok-images.ensures c.in_ok-epoch.epoch c.in_ok-packages.packages repo)

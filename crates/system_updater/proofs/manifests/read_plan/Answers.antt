@@ -1,0 +1,5 @@
+use Rattle.system_updater.proofs.Goes.{goes_then}
+use Rattle.system_updater.proofs.manifests.read_plan.Goals as goal
+
+pub returns-in-Err-clause-goes : goal.returns-in-Err-clause-goes
+returns-in-Err-clause-goes g c = λ repo. goes_then _ _ _ _ _ _ repo repo repo _ _ _ (c.in-Err.ensures.goes repo) (c.refuse.ensures c.args.dir repo)
