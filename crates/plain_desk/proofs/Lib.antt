@@ -1,5 +1,7 @@
 pub mod Stores
 pub mod Answered
+pub mod Copied
+pub mod Copies
 pub mod Filled
 pub mod Wants
 pub mod Blobs

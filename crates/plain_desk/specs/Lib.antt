@@ -1,2 +1,3 @@
+pub mod Copying
 pub mod Filling
 pub mod Stores
