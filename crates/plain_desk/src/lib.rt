@@ -2,6 +2,7 @@
 #![tactic(auto)]
 
 mod asking;
+mod copying;
 mod drafts;
 mod fetching;
 mod filling;
