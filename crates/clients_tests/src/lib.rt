@@ -1,0 +1,10 @@
+//! Tests of resolves and updates at stores in memory, over public calls, and what they share.
+#![tactic(auto)]
+
+pub mod shop;
+pub mod stores;
+
+#[cfg(test)]
+mod resolves;
+#[cfg(test)]
+mod updates;

@@ -1,0 +1,141 @@
+//! Resolves of one lane, each by its printed events. The store runs a system of an empty list.
+
+ghost use Rattle.std.specs.Prelude.{◌≡◌, None};
+ghost use Rattle.store_model.specs.Holding.{held};
+ghost use Rattle.store_model.specs.History.{of_lane};
+
+use crate::shop::{Shop, with_roots};
+use crate::stores::base_store;
+use package_url::{Url, read_url};
+use pkg_merkle::root_of;
+use pkg_names::{Bytes, Root};
+use plain_desk::{Lane, Store};
+use repo_source::MemRepo;
+use resolver::{ResolveReply, resolve};
+use script_lang::text_of;
+use std::alloc::Global;
+use std::sync::Wait;
+use std::test::Fail;
+
+// A package of two files.
+fn example(alloc: Global) -> Result<(Shop, Root), Fail> {
+    let mut shop = Shop::new(alloc);
+    let root = shop.package(
+        b"example",
+        &[(b"data/a".as_slice(), b"hi".as_slice()), (b"data/b".as_slice(), b"b".as_slice())],
+    )?;
+    Ok((shop, root))
+}
+
+fn resolve_on<W: Wait>(rt: &W, alloc: Global, store: &mut Store, repo: &mut MemRepo, url: &Url) -> ResolveReply
+    requires no_file { url.now.file ≡ None }
+    requires free { (held (of_lane 1 store.old.history)).claim ≡ None }
+{
+    let mut desk = Lane::make(store, 1);
+    resolve(rt, alloc, &mut desk, repo, url)
+}
+
+// The history of a resolve of this URL on lane 1, from this shop, whose calls with these numbers fail.
+fn history_of<W: Wait>(
+    rt: &W,
+    alloc: Global,
+    shop: Shop,
+    failing: &[u64],
+    url: &[u8],
+) -> Result<Bytes, Fail> {
+    let mut store = base_store(alloc)?;
+    let mut repo = shop.into_repo(failing.to_vec(alloc)?);
+    let url = read_url(alloc, url)?;
+    if url.file.is_some() {
+        return Err(Fail::new("a file"));
+    }
+    resolve_on(rt, alloc, &mut store, &mut repo, &url);
+    Ok(text_of(alloc, &store.into_history())?)
+}
+
+const EXAMPLE: &[u8] = b"fuchsia-pkg://fuchsia.com/example";
+
+#[test]
+fn a_package_is_fetched_and_opened(rt: HostRuntime) -> Result<(), Fail> {
+    let alloc = rt.alloc();
+    let (shop, package) = example(alloc)?;
+    let text = history_of(&rt, alloc, shop, &[], EXAMPLE)?;
+    let want = b"1 0 boot A
+2 1 begin example/0 ticket $0
+3 1 want 2 fetch $0
+4 1 room $0 made 12288
+5 1 land $0 landed 12288
+6 1 want 2 fetch $1
+7 1 room $1 made 2
+8 1 land $1 landed 2
+9 1 want 2 fetch $2
+10 1 room $2 made 1
+11 1 land $2 landed 1
+12 1 want 2 opened
+";
+    let roots = [package, root_of(b"hi"), root_of(b"b")];
+    assert_eq!(rt; text.as_slice(), with_roots(alloc, want, &roots)?.as_slice());
+    Ok(())
+}
+
+// The text ends so.
+fn ends(alloc: Global, text: &Bytes, end: &[u8], roots: &[Root]) -> Result<bool, Fail> {
+    Ok(text.as_slice().ends_with(&with_roots(alloc, end, roots)?))
+}
+
+// What is served in place of `hi`: a declared length, bytes, the call that fails, and how the history ends.
+#[test]
+fn bad_blobs(rt: HostRuntime) -> Result<(), Fail> {
+    let alloc = rt.alloc();
+    let cases: [(u64, &[u8], &[u64], &[u8]); 5] = [
+        (2, b"ho", &[], b"7 1 room $0 made 2\n8 1 land $0 ended wrong $1\n9 1 want 2 failed wrong $1\n"),
+        (3, b"hi", &[], b"7 1 room $0 made 3\n8 1 land $0 ended short 2\n9 1 want 2 failed short 2\n"),
+        (1, b"hi", &[], b"7 1 room $0 made 1\n8 1 put $0 ended long 1\n9 1 want 2 failed long 1\n"),
+        (2, b"hi", &[6], b"7 1 room $0 made 2\n8 1 miss $0 read\n9 1 want 2 failed read\n"),
+        (
+            33_554_433,
+            b"hi",
+            &[],
+            b"7 1 room $0 ended too-large 33554433\n8 1 want 2 failed too-large 33554433\n",
+        ),
+    ];
+    let roots = [root_of(b"hi"), root_of(b"ho")];
+    for (len, bytes, failing, end) in cases.iter() {
+        let (shop, _) = example(alloc)?;
+        let mut other = shop.without(roots[0]);
+        other.file_under(roots[0], *len, bytes)?;
+        let text = history_of(&rt, alloc, other, failing, EXAMPLE)?;
+        assert!(rt; ends(alloc, &text, end, &roots)?);
+    }
+    Ok(())
+}
+
+#[test]
+fn a_blob_is_absent(rt: HostRuntime) -> Result<(), Fail> {
+    let alloc = rt.alloc();
+    let (shop, _) = example(alloc)?;
+    let root = root_of(b"hi");
+    let text = history_of(&rt, alloc, shop.without(root), &[], EXAMPLE)?;
+    let end = b"6 1 want 2 fetch $0\n7 1 miss $0 absent\n8 1 want 2 failed absent\n";
+    assert!(rt; ends(alloc, &text, end, &[root])?);
+    Ok(())
+}
+
+// Which package it is, and how the history ends.
+#[test]
+fn refusals(rt: HostRuntime) -> Result<(), Fail> {
+    let alloc = rt.alloc();
+    let root = root_of(b"hi");
+    let pinned = with_roots(alloc, b"fuchsia-pkg://a/b?hash=$0", &[root])?;
+    let cases: [(&[u8], &[u64], &[u8]); 3] = [
+        (&pinned, &[], b"5 1 land $0 landed 2\n6 1 want 2 failed not-a-package\n"),
+        (b"fuchsia-pkg://a/none", &[], b"1 0 boot A\n2 1 begin none/0 not-found\n"),
+        (b"fuchsia-pkg://a/none", &[1], b"1 0 boot A\n2 1 begin none/0 listing-fault\n"),
+    ];
+    for (url, failing, end) in cases.iter() {
+        let (shop, _) = example(alloc)?;
+        let text = history_of(&rt, alloc, shop, failing, url)?;
+        assert!(rt; ends(alloc, &text, end, &[root])?);
+    }
+    Ok(())
+}

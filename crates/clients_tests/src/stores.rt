@@ -1,0 +1,90 @@
+//! Stores that tests begin with.
+
+ghost use Rattle.std.specs.Prelude.{◌≡◌, None, IfOk};
+ghost use Rattle.store_model.specs.Holding.{held, nothing_held};
+ghost use Rattle.store_model.specs.History.{of_lane};
+
+use crate::shop::Shop;
+use abr_record::{Record, SlotRecord};
+use image_layout::{Geometry, ImageSum, Sys};
+use pkg_merkle::BYTES_LIMIT;
+use pkg_names::{Bytes, Root};
+use plain_desk::{Opening, Store, StoredBlobs};
+use plain_state::Standing;
+use repo_source::RepoFile;
+use sha2::{Digest, Sha256};
+use std::alloc::Global;
+use std::test::Fail;
+
+/// The record that a factory writes: A has succeeded, and B can't be booted.
+pub fn factory() -> Record {
+    Record {
+        a: SlotRecord {
+            priority: 15,
+            tries: 0,
+            successful: true,
+        },
+        b: SlotRecord {
+            priority: 0,
+            tries: 0,
+            successful: false,
+        },
+        one_shot: 0,
+    }
+}
+
+pub fn sum_of(image: &[u8]) -> ImageSum {
+    ImageSum {
+        len: image.len() as u64,
+        sha: Sha256::digest(image),
+    }
+}
+
+/// A system of this epoch whose images are empty.
+pub fn system(root: Root, epoch: u64) -> Sys {
+    Sys {
+        system: root,
+        epoch,
+        zbi: sum_of(b""),
+        vbmeta: sum_of(b""),
+    }
+}
+
+/// The store that has these blobs, and runs the system of this package in A. It has room for 64 blobs and 1024
+/// pages.
+pub fn store_of(alloc: Global, files: &[RepoFile], root: Root) -> Result<Store, Fail>
+    ensures { IfOk result (λ store. held (of_lane 1 store.history) ≡ nothing_held) }
+{
+    let mut blobs = StoredBlobs::new(alloc);
+    for file in files {
+        put(alloc, &mut blobs, file)?;
+    }
+    let (stock, contents) = blobs.into_parts();
+    let standing = Standing::make(stock, factory(), Some(system(root, 1)), None);
+    let geometry = Geometry {
+        blobs: 64,
+        data_pages: 1024,
+        slot_pages: 8,
+    };
+    match Store::open(alloc, geometry, standing, contents)? {
+        Opening::Booted(store) => Ok(store),
+        _ => Err(Fail::new("no boot")),
+    }
+}
+
+/// The store that has the system package of an empty list, and runs it.
+pub fn base_store(alloc: Global) -> Result<Store, Fail>
+    ensures { IfOk result (λ store. held (of_lane 1 store.history) ≡ nothing_held) }
+{
+    let mut base = Shop::new(alloc);
+    let root = base.package(b"system_image", &[(b"data/static_packages".as_slice(), b"".as_slice())])?;
+    store_of(alloc, base.files(), root)
+}
+
+fn put(alloc: Global, blobs: &mut StoredBlobs, file: &RepoFile) -> Result<(), Fail> {
+    if file.bytes.as_slice().len() > BYTES_LIMIT {
+        return Err(Fail::new("no blob"));
+    }
+    blobs.put(file.bytes.try_copy(alloc)?)?;
+    Ok(())
+}

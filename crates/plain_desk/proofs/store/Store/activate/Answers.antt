@@ -1,0 +1,17 @@
+use Rattle.store_model.specs.Replies.{IsActivated}
+use Rattle.plain_desk.proofs.Stores.{answered, tells, rests}
+use Rattle.plain_desk.proofs.Filled.{activates, held_sealed}
+use Rattle.plain_desk.proofs.store.Store.activate.Goals as goal
+use Rattle.plain_desk.proofs.store.Store.activate.Goals.{in-Ok, in-Err}
+
+pub activate-requires-clause-stage : goal.activate-requires-clause-stage
+activate-requires-clause-stage c = held_sealed c.self.view_is c.self.invariant.holds c.requires
+
+pub invariant_of-self : goal.invariant_of-self
+invariant_of-self c = answered c.args.lane IsActivated c.activate.result c.self.invariant c.activate.ensures.ok c.activate.ensures.err
+
+pub returns-clause-event : goal.returns-clause-event
+returns-clause-event c = λ tie. elim c.match-activate.branch [
+  | in-Ok w ↦ rw w.result-is (activates _ _ _ (tells (IsActivated w.in-Ok.reply) c.self.view_is w.in-Ok.ensures.ok))
+  | in-Err w ↦ rw w.result-is (rests c.self.view_is w.in-Err.ensures.err)
+]

@@ -1,0 +1,14 @@
+use Rattle.store_model.specs.Replies.{IsBegun}
+use Rattle.plain_desk.proofs.Stores.{answered, tells, rests}
+use Rattle.plain_desk.proofs.Answered.{begins}
+use Rattle.plain_desk.proofs.store.Store.begin.Goals as goal
+use Rattle.plain_desk.proofs.store.Store.begin.Goals.{in-Ok, in-Err}
+
+pub invariant_of-self : goal.invariant_of-self
+invariant_of-self c = answered c.args.lane (IsBegun c.args.path.now c.args.choice) c.begin.result c.self.invariant c.begin.ensures.ok c.begin.ensures.err
+
+pub returns-clause-event : goal.returns-clause-event
+returns-clause-event c = λ tie. elim c.match-begin.branch [
+  | in-Ok w ↦ rw w.result-is (begins _ _ _ _ _ (tells (IsBegun c.args.path.now c.args.choice w.in-Ok.reply) c.self.view_is w.in-Ok.ensures.ok))
+  | in-Err w ↦ rw w.result-is (rests c.self.view_is w.in-Err.ensures.err)
+]

@@ -1,0 +1,14 @@
+use Rattle.store_model.specs.Replies.{IsChecked}
+use Rattle.plain_desk.proofs.Stores.{answered, tells, rests}
+use Rattle.plain_desk.proofs.Answered.{checks}
+use Rattle.plain_desk.proofs.store.Store.check.Goals as goal
+use Rattle.plain_desk.proofs.store.Store.check.Goals.{in-Ok, in-Err}
+
+pub invariant_of-self : goal.invariant_of-self
+invariant_of-self c = answered c.args.lane (IsChecked c.args.dir.number c.args.file.now) c.check.result c.self.invariant c.check.ensures.ok c.check.ensures.err
+
+pub returns-clause-event : goal.returns-clause-event
+returns-clause-event c = λ tie. elim c.match-check.branch [
+  | in-Ok w ↦ rw w.result-is (checks _ _ _ _ _ (tells (IsChecked c.args.dir.number c.args.file.now w.in-Ok.reply) c.self.view_is w.in-Ok.ensures.ok))
+  | in-Err w ↦ rw w.result-is (rests c.self.view_is w.in-Err.ensures.err)
+]

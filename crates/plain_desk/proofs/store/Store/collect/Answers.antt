@@ -1,0 +1,14 @@
+use Rattle.store_model.specs.Replies.{IsCollected}
+use Rattle.plain_desk.proofs.Stores.{cleared, does, rests}
+use Rattle.plain_desk.proofs.Answered.{collects}
+use Rattle.plain_desk.proofs.store.Store.collect.Goals as goal
+use Rattle.plain_desk.proofs.store.Store.collect.Goals.{in-Ok, in-Err}
+
+pub invariant_of-self : goal.invariant_of-self
+invariant_of-self c = cleared c.args.lane IsCollected c.collect.result c.self.invariant c.collect.ensures.ok c.collect.ensures.err c.collect.ensures.bytes
+
+pub returns-clause-event : goal.returns-clause-event
+returns-clause-event c = λ tie. elim c.match-collect.branch [
+  | in-Ok w ↦ rw w.result-is (collects _ _ _ (does (IsCollected w.in-Ok.reply) c.self.view_is w.in-Ok.ensures.ok.notes w.in-Ok.ensures.ok.its))
+  | in-Err w ↦ rw w.result-is (rests c.self.view_is w.in-Err.ensures.err)
+]

@@ -1,0 +1,14 @@
+use Rattle.store_model.specs.Replies.{IsCommitted}
+use Rattle.plain_desk.proofs.Stores.{answered, tells, rests}
+use Rattle.plain_desk.proofs.Filled.{commits}
+use Rattle.plain_desk.proofs.store.Store.commit.Goals as goal
+use Rattle.plain_desk.proofs.store.Store.commit.Goals.{in-Ok, in-Err}
+
+pub invariant_of-self : goal.invariant_of-self
+invariant_of-self c = answered c.args.lane IsCommitted c.commit.result c.self.invariant c.commit.ensures.ok c.commit.ensures.err
+
+pub returns-clause-event : goal.returns-clause-event
+returns-clause-event c = λ tie. elim c.match-commit.branch [
+  | in-Ok w ↦ rw w.result-is (commits _ _ _ (tells (IsCommitted w.in-Ok.reply) c.self.view_is w.in-Ok.ensures.ok))
+  | in-Err w ↦ rw w.result-is (rests c.self.view_is w.in-Err.ensures.err)
+]

@@ -1,0 +1,15 @@
+use Rattle.std.proofs.Common.{length}
+use Rattle.store_model.specs.Replies.{IsRetained}
+use Rattle.plain_desk.proofs.Stores.{answered, tells, rests}
+use Rattle.plain_desk.proofs.Answered.{retains}
+use Rattle.plain_desk.proofs.store.Store.retain.Goals as goal
+use Rattle.plain_desk.proofs.store.Store.retain.Goals.{in-Ok, in-Err}
+
+pub invariant_of-self : goal.invariant_of-self
+invariant_of-self c = answered c.args.lane (IsRetained c.args.roots.now (length c.args.roots.now)) c.retain.result c.self.invariant c.retain.ensures.ok c.retain.ensures.err
+
+pub returns-clause-event : goal.returns-clause-event
+returns-clause-event c = λ tie. elim c.match-retain.branch [
+  | in-Ok w ↦ rw w.result-is (retains _ _ _ _ (tells (IsRetained c.args.roots.now (length c.args.roots.now) w.in-Ok.reply) c.self.view_is w.in-Ok.ensures.ok))
+  | in-Err w ↦ rw w.result-is (rests c.self.view_is w.in-Err.ensures.err)
+]

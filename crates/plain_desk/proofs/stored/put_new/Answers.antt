@@ -1,0 +1,9 @@
+use Rattle.std.proofs.Common.{subst, sym}
+use Rattle.store_model.specs.State.{Stored}
+use Rattle.plain_stock.specs.Contents.{AreBytesOf}
+use Rattle.plain_desk.proofs.Blobs.{bytes_landed}
+use Rattle.plain_desk.proofs.stored.put_new.Goals as goal
+
+pub returns-in-Ok-clause-bytes : goal.returns-in-Ok-clause-bytes
+returns-in-Ok-clause-bytes c =
+    rw (c.in-Ok.ensures.ok, c.as_slice.ensures.list) (bytes_landed c.args.root c.args.bytes c.requires.bytes c.requires.missing c.requires.is c.in_ok-put.ensures.ok)

@@ -1,0 +1,5 @@
+pub mod Copying
+pub mod Filling
+pub mod Stores
+pub mod Opening
+pub mod Putting

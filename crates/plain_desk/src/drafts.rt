@@ -1,0 +1,149 @@
+//! The bytes that lanes have put under their claims.
+
+ghost use Rattle.std.specs.Prelude.{◌≡◌, ◌+◌, ◌≤◌, ◌++◌, [], length, map, option_copied, IfOk, OnOk, OnErr};
+ghost use Rattle.plain_desk.specs.Stores.{Drafted, added, draft_of, draft_with, room_in, without_draft};
+
+use std::alloc::{AllocError, Global};
+use std::marker::Model;
+
+/// The bytes that a lane has put under its claim, in the room that was made for them.
+#[derive(Drop)]
+pub(crate) struct Draft {
+    lane: u32,
+    buffer: Vec<u8>,
+    filled: usize,
+}
+
+impl Model for Draft {
+    ghost use Rattle.std.specs.Prelude.{◌≤◌, take, vec_len};
+    ghost use Rattle.plain_desk.specs.Stores.{DraftOf};
+
+    ghost Value = { DraftOf };
+
+    ghost view = { λ d. record { lane = d.lane; room = vec_len d.buffer; bytes = take d.filled d.buffer.items } };
+
+    ghost invariant = { λ d. d.filled ≤ vec_len d.buffer };
+}
+
+/// The drafts of all lanes that have room for a blob.
+#[derive(Drop)]
+pub(crate) struct Drafts {
+    drafts: Vec<Draft>,
+}
+
+impl Model for Drafts {
+    ghost use Rattle.std.specs.Prelude.{List};
+    ghost use Rattle.plain_desk.specs.Stores.{DraftOf};
+
+    ghost Value = { List DraftOf };
+
+    ghost view = { λ d. d.drafts.items };
+}
+
+impl Drafts {
+    pub(crate) fn new(alloc: Global) -> Drafts
+        ensures { result ≡ [] }
+    {
+        Drafts {
+            drafts: Vec::new(alloc),
+        }
+    }
+
+    /// The bytes that the lane has put. Without a draft there are none.
+    pub(crate) fn bytes_of(&self, lane: u32) -> &[u8]
+        ensures { result.now ≡ draft_of self.now lane }
+    {
+        match draft_with(&self.drafts, lane) {
+            Some(draft) => draft.bytes(),
+            None => &[],
+        }
+    }
+
+    /// The room that the lane has.
+    pub(crate) fn room_of(&self, lane: u32) -> usize
+        ensures { result ≡ room_in self.now lane }
+    {
+        match draft_with(&self.drafts, lane) {
+            Some(draft) => draft.room(),
+            None => 0,
+        }
+    }
+
+    /// The lane has room for so many bytes from now on, and has put none.
+    pub(crate) fn begin(&mut self, alloc: Global, lane: u32, room: usize) -> Result<(), AllocError>
+        ensures ok { OnOk result (Drafted lane room [] self.old self.new) }
+        ensures err { OnErr result (Drafted lane 0 [] self.old self.new) }
+    {
+        self.end(lane);
+        let draft = Draft::make(alloc, lane, room)?;
+        self.drafts.push(draft)?;
+        Ok(())
+    }
+
+    /// These bytes come behind those that the lane has put.
+    pub(crate) fn add(&mut self, lane: u32, bytes: &[u8])
+        requires { length (draft_of self.old lane) + length bytes.now ≤ room_in self.old lane }
+        ensures { Drafted lane (room_in self.old lane) (draft_of self.old lane ++ bytes.now) self.old self.new }
+    {
+        add(&mut self.drafts, lane, bytes);
+    }
+
+    /// The lane has no room for a blob from now on.
+    pub(crate) fn end(&mut self, lane: u32)
+        ensures list { self.new ≡ without_draft self.old lane }
+        ensures drafted { Drafted lane 0 [] self.old self.new }
+    {
+        self.drafts.retain(|draft| draft.lane != lane);
+    }
+}
+
+fn draft_with(drafts: &[Draft], lane: u32) -> Option<&Draft>
+    ensures { option_copied result ≡ draft_with drafts.now lane }
+{
+    drafts.iter().find(|draft| draft.lane == lane)
+}
+
+fn add(drafts: &mut [Draft], lane: u32, bytes: &[u8])
+    ensures { drafts.new ≡ map (added lane bytes.now) drafts.old }
+{
+    for draft in drafts.iter_mut() {
+        draft.add(lane, bytes);
+    }
+}
+
+impl Draft {
+    // Room without bytes.
+    fn make(alloc: Global, lane: u32, room: usize) -> Result<Draft, AllocError>
+        ensures { IfOk result (λ draft. draft ≡ record { lane = lane; room = room; bytes = [] }) }
+    {
+        let buffer = vec![in alloc; 0; room]?;
+        Ok(Draft {
+            lane,
+            buffer,
+            filled: 0,
+        })
+    }
+
+    fn bytes(&self) -> &[u8]
+        ensures { result.now ≡ self.now.bytes }
+    {
+        &self.buffer[..self.filled]
+    }
+
+    fn room(&self) -> usize
+        ensures { result ≡ self.now.room }
+    {
+        self.buffer.len()
+    }
+
+    // The bytes come behind those that are there, if the draft is the lane's and has room for them.
+    fn add(&mut self, lane: u32, bytes: &[u8])
+        ensures { self.new ≡ added lane bytes.now self.old }
+    {
+        if self.lane == lane && bytes.len() <= self.buffer.len() - self.filled {
+            let end = self.filled + bytes.len();
+            self.buffer[self.filled..end].copy_from_slice(bytes);
+            self.filled = end;
+        }
+    }
+}

@@ -1,0 +1,18 @@
+//! A store in memory, and a lane's desk at it.
+#![tactic(auto)]
+
+mod asking;
+mod copying;
+mod drafts;
+mod fetching;
+mod filling;
+mod images;
+mod keeping;
+mod opening;
+mod reading;
+mod store;
+mod stored;
+
+pub use opening::Opening;
+pub use store::Store;
+pub use stored::StoredBlobs;

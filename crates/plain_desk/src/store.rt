@@ -1,0 +1,67 @@
+//! The store: its ledger, the bytes of its blobs, and what lanes are putting together.
+
+ghost use Rattle.std.specs.Prelude.{◌≡◌, List, ℕ};
+ghost use Rattle.store_model.specs.Desk.{Keeps};
+ghost use Rattle.store_model.specs.Calls.{Closes, Rejects};
+ghost use Rattle.plain_desk.specs.Stores.{view_of, kept_for};
+
+use crate::drafts::Drafts;
+use crate::images::Images;
+use plain_ledger::Ledger;
+use plain_stock::Contents;
+use std::alloc::Global;
+use std::marker::Model;
+use store_model::{Act, CloseReply, Dir, RejectReply};
+use system_lists::{ManifestFault, ManifestFile};
+
+/// A store in memory. Contracts see where it began, its history, and what lanes are putting together.
+#[derive(Drop)]
+pub struct Store {
+    pub(crate) alloc: Global,
+    pub(crate) ledger: Ledger,
+    pub(crate) contents: Contents,
+    pub(crate) drafts: Drafts,
+    pub(crate) images: Images,
+}
+
+impl Model for Store {
+    ghost use Rattle.plain_desk.specs.Stores.{StoreOf, IsStore};
+
+    ghost Value = { StoreOf };
+
+    ghost view = { λ s. record {
+      origin = s.ledger.origin;
+      history = s.ledger.history;
+      drafts = s.drafts;
+      images = s.images;
+    } };
+
+    ghost invariant = { λ s. IsStore s.ledger s.contents s.drafts s.images };
+}
+
+impl Store {
+    /// Notes that a manifest of an update is bad.
+    pub(crate) fn reject(&mut self, lane: u32, file: ManifestFile, why: ManifestFault) -> RejectReply
+        ensures event { (tie : List ℕ) → Rejects file why result (view_of tie lane self.old) (view_of tie lane self.new) }
+        ensures kept { Keeps (kept_for lane self.old) (kept_for lane self.new) }
+        ensures images { self.new.images ≡ self.old.images }
+    {
+        match self.ledger.note(lane, Act::Reject { file, why }) {
+            Ok(()) => RejectReply::Noted,
+            Err(_) => RejectReply::NoMemory,
+        }
+    }
+
+    /// Closes a directory.
+    pub(crate) fn close(&mut self, lane: u32, dir: Dir) -> CloseReply
+        ensures event { (tie : List ℕ) → Closes dir.number result (view_of tie lane self.old) (view_of tie lane self.new) }
+        ensures kept { Keeps (kept_for lane self.old) (kept_for lane self.new) }
+        ensures images { self.new.images ≡ self.old.images }
+    {
+        match self.ledger.close(lane, dir.number) {
+            Ok(true) => CloseReply::Closed,
+            Ok(false) => CloseReply::BadDir,
+            Err(_) => CloseReply::NoMemory,
+        }
+    }
+}
