@@ -3,10 +3,8 @@
 
 mod asking;
 mod copying;
-mod drafts;
 mod fetching;
 mod filling;
-mod images;
 mod keeping;
 mod lane;
 mod opening;
