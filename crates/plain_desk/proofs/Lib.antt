@@ -3,7 +3,6 @@ pub mod Blobs
 pub mod Claims
 pub mod Copied
 pub mod Copies
-pub mod Drafting
 pub mod Filled
 pub mod Landing
 mod Opened

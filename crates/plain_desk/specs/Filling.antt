@@ -22,6 +22,7 @@ use Rattle.store_model.specs.Replies.{Acts, Looks, IsActivated, IsCopied, IsStag
 use Rattle.store_model.specs.Acts.Seal.{sum_in}
 use Rattle.plain_ledger.specs.Ledgers.{LedgerOf, Stays, Tells}
 use Rattle.plain_desk.specs.Stores.{ImagesOf, image_of}
+pub use Rattle.plain_drafts.specs.Images.{HaveSums, HaveSumsBefore, IsDifference}
 
 -- ---- replies
 
@@ -52,21 +53,6 @@ StagedBy lane epoch reply old new = Tells lane (IsStaged epoch reply) old new
 abbrev pub images_at_stage : StageReply → ImagesOf → ImagesOf
 images_at_stage (stage.Turn slot) old = record { zbi = []; vbmeta = []; fillers = no_fillers }
 images_at_stage reply old = old
-
--- the images before this one are those of the system
-abbrev pub HaveSumsBefore : Sys → ImagesOf → ImageKind → Type 0
-HaveSumsBefore sys i images.Zbi = Unit {0}
-HaveSumsBefore sys i images.Vbmeta = image_sum i.zbi ≡ sys.zbi
-
--- This is the first image that isn't the system's, and its sum.
-pub record IsDifference (sys : Sys) (i : ImagesOf) (difference : Difference) : Type 0 where
-  pub sum : image_sum (image_of i difference.image) ≡ difference.got
-  pub differs : difference.got ≢ sum_in sys difference.image
-  pub before : HaveSumsBefore sys i difference.image
-
--- both images are the system's
-abbrev pub HaveSums : Sys → ImagesOf → Type 0
-HaveSums sys i = (image_sum i.zbi ≡ sys.zbi) × (image_sum i.vbmeta ≡ sys.vbmeta)
 
 -- what is answered tells what the images are
 abbrev pub IsSealedOf : Sys → ImagesOf → SealReply → Type 0

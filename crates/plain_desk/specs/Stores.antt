@@ -33,18 +33,8 @@ use Rattle.plain_stock.specs.Contents.{AreBytesOf}
 use Rattle.store_model.specs.Systems.{seen_bytes}
 use Rattle.store_model.specs.declared.events.Act.{Act}
 use Rattle.plain_ledger.specs.Ledgers.{LedgerOf, Agrees, Notes, event_by, next_number}
-
--- the room that a lane has for a blob, and the bytes that it has put there
-pub record DraftOf : Type 0 where
-  pub lane : ℕ
-  pub room : ℕ
-  pub bytes : List ℕ
-
--- the images of the slot that is filled, and the files that alone have filled them
-pub record ImagesOf : Type 0 where
-  pub zbi : List ℕ
-  pub vbmeta : List ℕ
-  pub fillers : Fillers
+pub use Rattle.plain_drafts.specs.Drafts.{DraftOf, Drafted, added, bytes_in, len_in, draft_of, draft_with, room_in, without_draft}
+pub use Rattle.plain_drafts.specs.Images.{ImagesOf, IsAppended, image_of}
 
 -- what contracts see of a store
 pub record StoreOf : Type 0 where
@@ -63,51 +53,6 @@ view_of tie lane s = record {
   mine = of_lane lane s.history;
   fillers = s.images.fillers;
 }
-
-abbrev pub draft_with : List DraftOf → ℕ → Option DraftOf
-draft_with drafts lane = find (λ (draft : DraftOf). draft.lane == lane) drafts
-
-abbrev pub bytes_in : Option DraftOf → List ℕ
-bytes_in None = []
-bytes_in (Some draft) = draft.bytes
-
-abbrev pub len_in : Option DraftOf → ℕ
-len_in None = 0
-len_in (Some draft) = draft.room
-
--- the bytes under the lane's claim; without a draft there are none
-abbrev pub draft_of : List DraftOf → ℕ → List ℕ
-draft_of drafts lane = bytes_in (draft_with drafts lane)
-
--- the room that the lane has for them
-abbrev pub room_in : List DraftOf → ℕ → ℕ
-room_in drafts lane = len_in (draft_with drafts lane)
-
--- these bytes come behind those of the draft, if it is the lane's and has room for them
-abbrev pub added : ℕ → List ℕ → DraftOf → DraftOf
-added lane bytes draft =
-    if (draft.lane == lane) && nat_le (length bytes) (draft.room - length draft.bytes)
-    then record draft { bytes = draft.bytes ++ bytes } else draft
-
--- the drafts but the lane's
-abbrev pub without_draft : List DraftOf → ℕ → List DraftOf
-without_draft drafts lane = filter (λ (draft : DraftOf). not (draft.lane == lane)) drafts
-
--- the new drafts are the old ones, but this lane has this room and these bytes
-pub record Drafted (lane room : ℕ) (bytes : List ℕ) (old new : List DraftOf) : Type 0 where
-  pub rooms : (other : ℕ) → room_in new other ≡ (if lane == other then room else room_in old other)
-  pub drafts : (other : ℕ) → draft_of new other ≡ (if lane == other then bytes else draft_of old other)
-
-abbrev pub image_of : ImagesOf → ImageKind → List ℕ
-image_of s images.Zbi = s.zbi
-image_of s images.Vbmeta = s.vbmeta
-
--- A part of the file with this root came behind the bytes of an image.
-pub record IsAppended (image : ImageKind) (root : Root) (part : List ℕ) (old new : ImagesOf) : Type 0 where
-  pub bytes : image_of new image ≡ image_of old image ++ part
-  pub others : (kind : ImageKind) → kind ≢ image → image_of new kind ≡ image_of old kind
-  pub fillers : new.fillers ≡ with_filler old.fillers image
-      (filler_after (length (image_of old image)) root (filler_of old.fillers image))
 
 -- the bytes that the lane's desk stands for
 abbrev pub kept_for : ℕ → StoreOf → Keeping → List ℕ → Type 0

@@ -15,7 +15,7 @@ ghost use Rattle.plain_desk.specs.Stores.{IsFileThere, kept_for, view_of};
 ghost use Rattle.plain_desk.specs.Filling.{IsCopiedAs};
 ghost use Rattle.plain_desk.specs.Copying.{CopiedBy, IsCopiedFile, IsCopiedFrom, next_part};
 
-use crate::images::Images;
+use plain_drafts::Images;
 use crate::reading::{root_within, stored_bytes};
 use crate::store::Store;
 use image_layout::ImageKind;

@@ -17,7 +17,7 @@ ghost use Rattle.plain_ledger.specs.Ledgers.{Agrees, Notes, Stays};
 ghost use Rattle.plain_desk.specs.Stores.{Drafted, IsLandingEnd, IsLandedAs, HasLanded, draft_of, room_after, room_in, view_of, kept_for};
 
 use crate::asking::{copied, looked};
-use crate::drafts::Drafts;
+use plain_drafts::Drafts;
 use crate::store::Store;
 use fetch_queue::FetchEnd;
 use package_book::META_LIMIT;

@@ -3,16 +3,16 @@
 
 mod asking;
 mod copying;
-mod drafts;
 mod fetching;
 mod filling;
-mod images;
 mod keeping;
+mod lane;
 mod opening;
 mod reading;
 mod store;
 mod stored;
 
+pub use lane::Lane;
 pub use opening::Opening;
 pub use store::Store;
 pub use stored::StoredBlobs;

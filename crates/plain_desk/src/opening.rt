@@ -5,8 +5,8 @@ ghost use Rattle.store_model.specs.History.{IsLegal};
 ghost use Rattle.plain_stock.specs.Contents.{AreBytesOf};
 ghost use Rattle.plain_desk.specs.Opening.{Opens};
 
-use crate::drafts::Drafts;
-use crate::images::Images;
+use plain_drafts::Drafts;
+use plain_drafts::Images;
 use crate::store::Store;
 use abr_record::Slot;
 use image_layout::Geometry;

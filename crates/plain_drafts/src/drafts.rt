@@ -1,14 +1,14 @@
 //! The bytes that lanes have put under their claims.
 
 ghost use Rattle.std.specs.Prelude.{◌≡◌, ◌+◌, ◌≤◌, ◌++◌, [], length, map, option_copied, IfOk, OnOk, OnErr};
-ghost use Rattle.plain_desk.specs.Stores.{Drafted, added, draft_of, draft_with, room_in, without_draft};
+ghost use Rattle.plain_drafts.specs.Drafts.{Drafted, added, draft_of, draft_with, room_in, without_draft};
 
 use std::alloc::{AllocError, Global};
 use std::marker::Model;
 
 /// The bytes that a lane has put under its claim, in the room that was made for them.
 #[derive(Drop)]
-pub(crate) struct Draft {
+struct Draft {
     lane: u32,
     buffer: Vec<u8>,
     filled: usize,
@@ -16,7 +16,7 @@ pub(crate) struct Draft {
 
 impl Model for Draft {
     ghost use Rattle.std.specs.Prelude.{◌≤◌, take, vec_len};
-    ghost use Rattle.plain_desk.specs.Stores.{DraftOf};
+    ghost use Rattle.plain_drafts.specs.Drafts.{DraftOf};
 
     ghost Value = { DraftOf };
 
@@ -27,13 +27,13 @@ impl Model for Draft {
 
 /// The drafts of all lanes that have room for a blob.
 #[derive(Drop)]
-pub(crate) struct Drafts {
+pub struct Drafts {
     drafts: Vec<Draft>,
 }
 
 impl Model for Drafts {
     ghost use Rattle.std.specs.Prelude.{List};
-    ghost use Rattle.plain_desk.specs.Stores.{DraftOf};
+    ghost use Rattle.plain_drafts.specs.Drafts.{DraftOf};
 
     ghost Value = { List DraftOf };
 
@@ -41,7 +41,7 @@ impl Model for Drafts {
 }
 
 impl Drafts {
-    pub(crate) fn new(alloc: Global) -> Drafts
+    pub fn new(alloc: Global) -> Drafts
         ensures { result ≡ [] }
     {
         Drafts {
@@ -50,7 +50,7 @@ impl Drafts {
     }
 
     /// The bytes that the lane has put. Without a draft there are none.
-    pub(crate) fn bytes_of(&self, lane: u32) -> &[u8]
+    pub fn bytes_of(&self, lane: u32) -> &[u8]
         ensures { result.now ≡ draft_of self.now lane }
     {
         match draft_with(&self.drafts, lane) {
@@ -60,7 +60,7 @@ impl Drafts {
     }
 
     /// The room that the lane has.
-    pub(crate) fn room_of(&self, lane: u32) -> usize
+    pub fn room_of(&self, lane: u32) -> usize
         ensures { result ≡ room_in self.now lane }
     {
         match draft_with(&self.drafts, lane) {
@@ -70,7 +70,7 @@ impl Drafts {
     }
 
     /// The lane has room for so many bytes from now on, and has put none.
-    pub(crate) fn begin(&mut self, alloc: Global, lane: u32, room: usize) -> Result<(), AllocError>
+    pub fn begin(&mut self, alloc: Global, lane: u32, room: usize) -> Result<(), AllocError>
         ensures ok { OnOk result (Drafted lane room [] self.old self.new) }
         ensures err { OnErr result (Drafted lane 0 [] self.old self.new) }
     {
@@ -81,7 +81,7 @@ impl Drafts {
     }
 
     /// These bytes come behind those that the lane has put.
-    pub(crate) fn add(&mut self, lane: u32, bytes: &[u8])
+    pub fn add(&mut self, lane: u32, bytes: &[u8])
         requires { length (draft_of self.old lane) + length bytes.now ≤ room_in self.old lane }
         ensures { Drafted lane (room_in self.old lane) (draft_of self.old lane ++ bytes.now) self.old self.new }
     {
@@ -89,7 +89,7 @@ impl Drafts {
     }
 
     /// The lane has no room for a blob from now on.
-    pub(crate) fn end(&mut self, lane: u32)
+    pub fn end(&mut self, lane: u32)
         ensures list { self.new ≡ without_draft self.old lane }
         ensures drafted { Drafted lane 0 [] self.old self.new }
     {

@@ -1,8 +1,8 @@
 use Rattle.std.proofs.Common.{◌≡◌, ◌++◌, List, length, map, take, drop, arith, sym, subst}
 use Rattle.std.proofs.lemmas.Grind.{common_steps}
-use Rattle.plain_desk.specs.Stores.{DraftOf, Drafted, added, draft_of, room_in}
-use Rattle.plain_desk.proofs.Drafting.{added_drafted}
-use Rattle.plain_desk.proofs.drafts.Drafts.add.Goals as goal
+use Rattle.plain_drafts.specs.Drafts.{DraftOf, Drafted, added, draft_of, room_in}
+use Rattle.plain_drafts.proofs.Drafting.{added_drafted}
+use Rattle.plain_drafts.proofs.drafts.Drafts.add.Goals as goal
 
 pub returns : goal.returns
 returns c =

@@ -5,7 +5,7 @@ use Rattle.std.specs.Option.{option_map}
 use Rattle.std.proofs.lemmas.Bool.Decides.{nat_tests}
 use Rattle.std.proofs.lemmas.Bool.{cases_Bool, eqb-true, true≢false}
 use Rattle.open_tracker.proofs.Finds.{find_gone, find_kept}
-use Rattle.plain_desk.specs.Stores.{DraftOf, Drafted, added, bytes_in, len_in, draft_of, draft_with, room_in, without_draft}
+use Rattle.plain_drafts.specs.Drafts.{DraftOf, Drafted, added, bytes_in, len_in, draft_of, draft_with, room_in, without_draft}
 
 abbrev is_of : ℕ → DraftOf → Bool
 is_of lane draft = draft.lane == lane

@@ -3,8 +3,8 @@
 ghost use Rattle.std.specs.Prelude.{◌≡◌, [], None, length, IfOk, MatchOption, OnErr};
 ghost use Rattle.image_layout.specs.Sums.{image_sum};
 ghost use Rattle.store_model.specs.Desk.{filler_after};
-ghost use Rattle.plain_desk.specs.Filling.{HaveSums, IsDifference};
-ghost use Rattle.plain_desk.specs.Stores.{IsAppended, image_of};
+ghost use Rattle.plain_drafts.specs.Images.{HaveSums, IsDifference};
+ghost use Rattle.plain_drafts.specs.Images.{IsAppended, image_of};
 
 use image_layout::{ImageKind, ImageSum, Sys};
 use pkg_names::Root;
@@ -15,15 +15,15 @@ use store_model::Difference;
 
 /// The bytes of the two images, and the files that alone have filled them.
 #[derive(Drop)]
-pub(crate) struct Images {
-    pub(crate) zbi: Vec<u8>,
-    pub(crate) vbmeta: Vec<u8>,
-    pub(crate) zbi_filler: Option<Root>,
-    pub(crate) vbmeta_filler: Option<Root>,
+pub struct Images {
+    zbi: Vec<u8>,
+    vbmeta: Vec<u8>,
+    zbi_filler: Option<Root>,
+    vbmeta_filler: Option<Root>,
 }
 
 impl Model for Images {
-    ghost use Rattle.plain_desk.specs.Stores.{ImagesOf};
+    ghost use Rattle.plain_drafts.specs.Images.{ImagesOf};
 
     ghost Value = { ImagesOf };
 
@@ -36,7 +36,7 @@ impl Model for Images {
 
 impl Images {
     /// Two images without bytes.
-    pub(crate) fn new(alloc: Global) -> Images
+    pub fn new(alloc: Global) -> Images
         ensures { result ≡ record { zbi = []; vbmeta = []; fillers = record { zbi = None; vbmeta = None } } }
     {
         Images {
@@ -48,7 +48,7 @@ impl Images {
     }
 
     /// Both images have no bytes from now on.
-    pub(crate) fn clear(&mut self)
+    pub fn clear(&mut self)
         ensures { self.new ≡ record { zbi = []; vbmeta = []; fillers = record { zbi = None; vbmeta = None } } }
     {
         self.zbi.clear();
@@ -57,7 +57,7 @@ impl Images {
         self.vbmeta_filler = None;
     }
 
-    pub(crate) fn len(&self, image: ImageKind) -> usize
+    pub fn len(&self, image: ImageKind) -> usize
         ensures { result ≡ length (image_of self.now image) }
     {
         match image {
@@ -67,7 +67,7 @@ impl Images {
     }
 
     /// A part of the file with this root comes behind the bytes of an image. Tells how many it has then.
-    pub(crate) fn append(
+    pub fn append(
         &mut self,
         image: ImageKind,
         root: Root,
@@ -94,7 +94,7 @@ impl Images {
     }
 
     /// The first image that isn't the system's.
-    pub(crate) fn difference(&self, sys: &Sys) -> Option<Difference>
+    pub fn difference(&self, sys: &Sys) -> Option<Difference>
         ensures { MatchOption result (HaveSums sys.now self.now) (IsDifference sys.now self.now) }
     {
         let zbi = sum_of(&self.zbi);

@@ -1,8 +1,8 @@
 use Rattle.std.proofs.Common.{rules, ◌≡◌, List, ap, ◌∙◌}
 use Rattle.std.proofs.lemmas.Fn.{filter_same}
-use Rattle.plain_desk.specs.Stores.{DraftOf, without_draft}
-use Rattle.plain_desk.proofs.Drafting.{ended}
-use Rattle.plain_desk.proofs.drafts.Drafts.end.Goals as goal
+use Rattle.plain_drafts.specs.Drafts.{DraftOf, without_draft}
+use Rattle.plain_drafts.proofs.Drafting.{ended}
+use Rattle.plain_drafts.proofs.drafts.Drafts.end.Goals as goal
 
 pub returns-clause-list : goal.returns-clause-list
 returns-clause-list c =

@@ -1,7 +1,7 @@
 use Rattle.std.proofs.Common.{List, [], ◌∷◌, ◌++◌, sym, subst, ap, ◌∙◌}
-use Rattle.plain_desk.specs.Stores.{DraftOf, Drafted}
-use Rattle.plain_desk.proofs.Drafting.{begun}
-use Rattle.plain_desk.proofs.drafts.Drafts.begin.Goals as goal
+use Rattle.plain_drafts.specs.Drafts.{DraftOf, Drafted}
+use Rattle.plain_drafts.proofs.Drafting.{begun}
+use Rattle.plain_drafts.proofs.drafts.Drafts.begin.Goals as goal
 
 pub returns-clause-ok : goal.returns-clause-ok
 returns-clause-ok c =
