@@ -33,8 +33,11 @@ pub landed : {tie : List ℕ} {lane : ℕ} {old new : LedgerOf} (root : Root) {d
 landed {tie} {lane} {old} {new} root {drafts} {images} {fillers} is have full h =
     subst (λ (s : StoreOf). Does (view_of tie lane s) (view_at tie lane new fillers) (IsLandedWith root (room_by (view_of tie lane s)) (kept_for lane s))) is
     (does_at tie images.fillers fillers (IsLandedWith root (room_by (view_of tie lane (store_of old drafts images))) (kept_for lane (store_of old drafts images)))
-    h.notes (h.seen, (ap (λ (n : ℕ). acts.Land root n None h.seen) (full ∙ have.rooms lane), refl),
-    λ bytes same. subst (λ (b : List ℕ). (h.seen ≡ []) ⊎ (h.seen ≡ record { root = root; bytes = b } ∷ [])) (sym same) h.carries))
+    h.notes (
+      h.seen,
+      (ap (λ (n : ℕ). acts.Land root n None h.seen) (full ∙ have.rooms lane), refl),
+      λ bytes same. subst (λ (b : List ℕ). (h.seen ≡ []) ⊎ (h.seen ≡ record { root = root; bytes = b } ∷ [])) (sym same) h.carries,
+    ))
 
 pub landing_ended : {tie : List ℕ} {lane : ℕ} {old new : LedgerOf} (root : Root) (end : FetchEnd) {drafts : List DraftOf} {images : ImagesOf} {fillers : Fillers}
     {was : StoreOf} → store_of old drafts images ≡ was → HaveRoom drafts old.history

@@ -13,10 +13,10 @@ ghost use Rattle.plain_state.specs.Learning.{seen_of};
 ghost use Rattle.plain_ledger.specs.Ledgers.{Agrees, Stays, Tells};
 ghost use Rattle.plain_desk.specs.Stores.{view_of, kept_for, IsRefusal, IsBegunAs};
 
-use plain_ledger::Ledger;
 use crate::store::Store;
 use package_indexes::Choice;
 use pkg_names::{Bytes, PackagePath, Root};
+use plain_ledger::Ledger;
 use plain_state::State;
 use plain_stock::Contents;
 use std::alloc::{AllocError, Global};
@@ -31,7 +31,14 @@ impl Store {
         ensures kept { Keeps (kept_for lane self.old) (kept_for lane self.new) }
         ensures images { self.new.images ≡ self.old.images }
     {
-        match begin(self.alloc, &mut self.ledger, &self.contents, lane, path, choice) {
+        match begin(
+            self.alloc,
+            &mut self.ledger,
+            &self.contents,
+            lane,
+            path,
+            choice,
+        ) {
             Ok(reply) => reply,
             Err(_) => BeginReply::NoMemory,
         }

@@ -9,8 +9,8 @@ use pkg_names::{FilePath, PackagePath, Root};
 use std::marker::Model;
 use store_model::{
     ActivateReply, BeginReply, CheckReply, Claim, CloseReply, CollectReply, CommitReply, CopyReply,
-    Desk, Dir, LandReply, Miss, OpenReply, PutReply, ReadReply, RejectReply, RetainReply, RoomReply,
-    SealReply, StageReply, Ticket, WantReply,
+    Desk, Dir, LandReply, Miss, OpenReply, PutReply, ReadReply, RejectReply, RetainReply,
+    RoomReply, SealReply, StageReply, Ticket, WantReply,
 };
 use system_lists::{ManifestFault, ManifestFile};
 
@@ -125,5 +125,7 @@ impl<'a> Desk for Lane<'a> {
     }
 
     // Nobody else is at the store: there is no bell to wait for.
-    fn pause(&mut self, _bell: u64) {}
+    fn pause(&mut self, _bell: u64) {
+        self.store.pause(self.number);
+    }
 }

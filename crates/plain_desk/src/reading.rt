@@ -12,16 +12,14 @@ ghost use Rattle.plain_stock.specs.Contents.{AreBytesOf};
 ghost use Rattle.plain_ledger.specs.Ledgers.{Agrees, Stays, Tells};
 ghost use Rattle.plain_desk.specs.Stores.{view_of, kept_for, IsFileThere, IsReadAs, IsCheckedAs};
 
-use plain_ledger::Ledger;
 use crate::store::Store;
 use pkg_merkle::{BYTES_LIMIT, root_of};
 use pkg_names::{Bytes, FilePath, PackagePath, Root};
+use plain_ledger::Ledger;
 use plain_state::{FileAt, State};
 use plain_stock::Contents;
 use std::alloc::{AllocError, Global};
-use store_model::{
-    Act, CheckEnd, CheckReply, Dir, OpenReply, READ_LIMIT, ReadEnd, ReadReply,
-};
+use store_model::{Act, CheckEnd, CheckReply, Dir, OpenReply, READ_LIMIT, ReadEnd, ReadReply};
 
 impl Store {
     /// Opens a package that is here.
@@ -42,7 +40,14 @@ impl Store {
         ensures kept { Keeps (kept_for lane self.old) (kept_for lane self.new) }
         ensures images { self.new.images ≡ self.old.images }
     {
-        match read(self.alloc, &mut self.ledger, &self.contents, lane, dir.number, file) {
+        match read(
+            self.alloc,
+            &mut self.ledger,
+            &self.contents,
+            lane,
+            dir.number,
+            file,
+        ) {
             Ok(reply) => reply,
             Err(_) => ReadReply::NoMemory,
         }
@@ -204,12 +209,7 @@ fn check(
 }
 
 // A stored blob has its root and its length.
-fn check_end(
-    state: &State,
-    lane: u32,
-    dir: u64,
-    file: &FilePath,
-) -> Result<CheckEnd, AllocError>
+fn check_end(state: &State, lane: u32, dir: u64, file: &FilePath) -> Result<CheckEnd, AllocError>
     requires { IsFileThere state.now lane dir file.now }
     ensures { IfOk result (λ end. IsDueCheck state.now lane dir file.now end) }
 {

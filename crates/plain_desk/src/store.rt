@@ -1,7 +1,7 @@
 //! The store: its ledger, the bytes of its blobs, and what lanes are putting together.
 
 ghost use Rattle.std.specs.Prelude.{◌≡◌, List, ℕ};
-ghost use Rattle.store_model.specs.Desk.{Keeps};
+ghost use Rattle.store_model.specs.Desk.{Keeps, Rests};
 ghost use Rattle.store_model.specs.Calls.{Closes, Rejects};
 ghost use Rattle.plain_desk.specs.Stores.{view_of, kept_for};
 
@@ -41,7 +41,12 @@ impl Model for Store {
 
 impl Store {
     /// Notes that a manifest of an update is bad.
-    pub(crate) fn reject(&mut self, lane: u32, file: ManifestFile, why: ManifestFault) -> RejectReply
+    pub(crate) fn reject(
+        &mut self,
+        lane: u32,
+        file: ManifestFile,
+        why: ManifestFault,
+    ) -> RejectReply
         ensures event { (tie : List ℕ) → Rejects file why result (view_of tie lane self.old) (view_of tie lane self.new) }
         ensures kept { Keeps (kept_for lane self.old) (kept_for lane self.new) }
         ensures images { self.new.images ≡ self.old.images }
@@ -63,5 +68,12 @@ impl Store {
             Ok(false) => CloseReply::BadDir,
             Err(_) => CloseReply::NoMemory,
         }
+    }
+
+    /// Does nothing: nobody else is at the store.
+    pub(crate) fn pause(&self, lane: u32)
+        ensures { (tie : List ℕ) → Rests (view_of tie lane self.now) (view_of tie lane self.now) }
+    {
+        let _ledger = &self.ledger;
     }
 }

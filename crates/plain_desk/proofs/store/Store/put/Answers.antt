@@ -17,7 +17,10 @@ invariant_of-self c = put_made c.args.lane c.args.claim.root c.args.bytes.now c.
 
 pub returns-clause-event : goal.returns-clause-event
 returns-clause-event c = λ tie. elim c.match-put.branch [
-  | in-None w ↦ rw w.result-is (rests c.self.view_is (same_stays w.in-None.ensures.event c.self.invariant.holds), refl,
-      unbroken_at (invariant_of-self c).holds (invariant_of-self c).unbroken)
+  | in-None w ↦ rw w.result-is (
+    rests c.self.view_is (same_stays w.in-None.ensures.event c.self.invariant.holds),
+    refl,
+    unbroken_at (invariant_of-self c).holds (invariant_of-self c).unbroken,
+  )
   | in-Some w ↦ rw w.result-is (does (IsPut c.args.claim.root (put.Ended w.in-Some.end)) c.self.view_is w.in-Some.ensures.event (refl, refl))
 ]

@@ -20,8 +20,11 @@ invariant_of-self c = room_made c.args.lane c.args.len c.args.claim.root c.room.
 
 pub returns-clause-event : goal.returns-clause-event
 returns-clause-event c = λ tie. elim c.match-room.branch [
-  | in-Ok-None w ↦ rw w.result-is (does (IsRoom c.args.claim.root c.args.len (room.Made c.args.claim)) c.self.view_is w.in-Ok-None.ensures.ok
-      (ap (acts.Room c.args.claim.root c.args.len) w.in-Ok-None.field-0-is, refl), refl)
+  | in-Ok-None w ↦ rw w.result-is (
+    does (IsRoom c.args.claim.root c.args.len (room.Made c.args.claim)) c.self.view_is w.in-Ok-None.ensures.ok
+        (ap (acts.Room c.args.claim.root c.args.len) w.in-Ok-None.field-0-is, refl),
+    refl,
+  )
   | in-Ok-Some w ↦ rw w.result-is (does (IsRoom c.args.claim.root c.args.len (room.Ended w.in-Ok-Some.end)) c.self.view_is w.in-Ok-Some.ensures.ok
       (ap (acts.Room c.args.claim.root c.args.len) w.in-Ok-Some.field-0-is, refl))
   | in-Err w ↦ rw w.result-is (rests c.self.view_is w.in-Err.ensures.err, refl)

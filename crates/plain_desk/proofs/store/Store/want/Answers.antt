@@ -46,25 +46,34 @@ returns-in-Some-Failed-clause-event c = λ tie. does (IsWanted c.args.ticket.num
 pub returns-after-open_ticket-clause-event : goal.returns-after-open_ticket-clause-event
 returns-after-open_ticket-clause-event c = λ tie. elim c.match-open_ticket.branch [
   | in-Ok w ↦ rw w.result-is (does (IsWanted c.args.ticket.number (want.Opened (record { number = w.in-Ok.number }))) c.self.view_is w.in-Ok.ensures.ok.1 (w.in-Ok.ensures.ok.0, (refl, refl)))
-  | in-Err w ↦ rw w.result-is (rests c.self.view_is w.in-Err.ensures.err, refl,
-      may_go_on_still c.args.lane c.args.ticket wants.Opened c.self.invariant.holds w.in-Err.ensures.err
-      (answers c.args.ticket c.state.ensures c.want_answer.ensures ∙ c.in-Some-Opened.is ∙ ap Some c.in-Some-Opened.field-0-is) refl)
+  | in-Err w ↦ rw w.result-is (
+    rests c.self.view_is w.in-Err.ensures.err,
+    refl,
+    may_go_on_still c.args.lane c.args.ticket wants.Opened c.self.invariant.holds w.in-Err.ensures.err
+        (answers c.args.ticket c.state.ensures c.want_answer.ensures ∙ c.in-Some-Opened.is ∙ ap Some c.in-Some-Opened.field-0-is) refl,
+  )
 ]
 
 pub returns-after-grant-clause-event : goal.returns-after-grant-clause-event
 returns-after-grant-clause-event c = λ tie. elim c.match-grant.branch [
   | in-Ok-grant w ↦ rw w.result-is (does (IsWanted c.args.ticket.number (want.Fetch c.args.ticket (record { root = c.in-Some-Fetch.root }))) c.self.view_is w.in-Ok-grant.ensures.ok (refl, refl), refl)
-  | in-Err-grant w ↦ rw w.result-is (rests c.self.view_is w.in-Err-grant.ensures.err, refl,
-      may_go_on_still c.args.lane c.args.ticket (wants.Fetch c.in-Some-Fetch.root) c.self.invariant.holds w.in-Err-grant.ensures.err
-      (answers c.args.ticket c.state.ensures c.want_answer.ensures ∙ c.in-Some-Fetch.is ∙ ap Some c.in-Some-Fetch.field-0-is) refl)
+  | in-Err-grant w ↦ rw w.result-is (
+    rests c.self.view_is w.in-Err-grant.ensures.err,
+    refl,
+    may_go_on_still c.args.lane c.args.ticket (wants.Fetch c.in-Some-Fetch.root) c.self.invariant.holds w.in-Err-grant.ensures.err
+        (answers c.args.ticket c.state.ensures c.want_answer.ensures ∙ c.in-Some-Fetch.is ∙ ap Some c.in-Some-Fetch.field-0-is) refl,
+  )
 ]
 
 pub returns-in-None-clause-event : goal.returns-in-None-clause-event
 returns-in-None-clause-event c = λ tie.
     subst (λ (s : StoreOf). Rests (view_of tie c.args.lane s) (view_of tie c.args.lane s) × (c.args.ticket ≡ c.args.ticket)
-    × IsUnbroken (view_of tie c.args.lane s) × IsQuiet (state_of (view_of tie c.args.lane s)) c.args.lane c.args.ticket.number) c.self.view_is
-    (rests_still c.self.invariant.holds, refl, unbroken_at c.self.invariant.holds c.self.invariant.unbroken,
-    quiet c.self.inside.ledger c.args.lane c.args.ticket c.self.invariant.holds
-    (here c.self.inside.ledger (λ (s : StoreOf). HoldsTicket (view_of [] c.args.lane s) c.args.ticket) c.self.view_is c.requires.holds)
-    (here c.self.inside.ledger (λ (s : StoreOf). HoldsNoClaim (view_of [] c.args.lane s)) c.self.view_is c.requires.free)
-    (answers c.args.ticket c.state.ensures c.want_answer.ensures ∙ c.in-None.is))
+    × IsUnbroken (view_of tie c.args.lane s) × IsQuiet (state_of (view_of tie c.args.lane s)) c.args.lane c.args.ticket.number) c.self.view_is (
+      rests_still c.self.invariant.holds,
+      refl,
+      unbroken_at c.self.invariant.holds c.self.invariant.unbroken,
+      quiet c.self.inside.ledger c.args.lane c.args.ticket c.self.invariant.holds
+          (here c.self.inside.ledger (λ (s : StoreOf). HoldsTicket (view_of [] c.args.lane s) c.args.ticket) c.self.view_is c.requires.holds)
+          (here c.self.inside.ledger (λ (s : StoreOf). HoldsNoClaim (view_of [] c.args.lane s)) c.self.view_is c.requires.free)
+          (answers c.args.ticket c.state.ensures c.want_answer.ensures ∙ c.in-None.is),
+    )
