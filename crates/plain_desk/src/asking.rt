@@ -27,7 +27,8 @@ use store_model::{
 impl Store {
     /// Asks for a package.
     pub(crate) fn begin(&mut self, lane: u32, path: &PackagePath, choice: Choice) -> BeginReply
-        ensures event { (tie : List ℕ) → Begins path.now choice result (view_of tie lane self.old) (view_of tie lane self.new) }
+        ensures event { (tie : List ℕ)
+            → Begins path.now choice result (view_of tie lane self.old) (view_of tie lane self.new) }
         ensures kept { Keeps (kept_for lane self.old) (kept_for lane self.new) }
         ensures images { self.new.images ≡ self.old.images }
     {
@@ -72,7 +73,8 @@ impl Store {
     /// Ends a ticket.
     pub(crate) fn give_up(&mut self, lane: u32, ticket: Ticket)
         requires { HoldsTicket (view_of [] lane self.old) ticket }
-        ensures event { (tie : List ℕ) → Does (view_of tie lane self.old) (view_of tie lane self.new) (IsGivenUp ticket.number) }
+        ensures event { (tie : List ℕ)
+            → Does (view_of tie lane self.old) (view_of tie lane self.new) (IsGivenUp ticket.number) }
         ensures kept { Keeps (kept_for lane self.old) (kept_for lane self.new) }
         ensures images { self.new.images ≡ self.old.images }
     {

@@ -34,7 +34,8 @@ impl Store {
     /// wanted when they come.
     pub(crate) fn room(&mut self, lane: u32, claim: Claim, len: u64) -> RoomReply
         requires { HoldsNewClaim (view_of [] lane self.old) claim.root }
-        ensures event { (tie : List ℕ) → MakesRoom claim len result (view_of tie lane self.old) (view_of tie lane self.new) }
+        ensures event { (tie : List ℕ)
+            → MakesRoom claim len result (view_of tie lane self.old) (view_of tie lane self.new) }
         ensures kept { KeepsAtRoom result (kept_for lane self.old) (kept_for lane self.new) }
         ensures images { self.new.images ≡ self.old.images }
     {
@@ -56,7 +57,8 @@ impl Store {
     pub(crate) fn put(&mut self, lane: u32, claim: Claim, bytes: &[u8]) -> PutReply
         requires { HoldsRoom (view_of [] lane self.old) claim.root }
         ensures event { (tie : List ℕ) → Puts claim result (view_of tie lane self.old) (view_of tie lane self.new) }
-        ensures kept { KeepsAtPut (room_by (view_of [] lane self.old)) bytes.now result (kept_for lane self.old) (kept_for lane self.new) }
+        ensures kept { KeepsAtPut (room_by (view_of [] lane self.old)) bytes.now result
+            (kept_for lane self.old) (kept_for lane self.new) }
         ensures images { self.new.images ≡ self.old.images }
     {
         match put(&mut self.ledger, &mut self.drafts, lane, claim.root, bytes) {
@@ -68,8 +70,10 @@ impl Store {
     /// Stores a blob whose bytes are there.
     pub(crate) fn land(&mut self, lane: u32, claim: Claim) -> LandReply
         requires { HoldsRoom (view_of [] lane self.old) claim.root }
-        ensures event { (tie : List ℕ) → Lands claim (kept_for lane self.old) result (view_of tie lane self.old) (view_of tie lane self.new) }
-        ensures kept { KeepsAtLand claim.root (room_by (view_of [] lane self.old)) result (kept_for lane self.old) (kept_for lane self.new) }
+        ensures event { (tie : List ℕ)
+            → Lands claim (kept_for lane self.old) result (view_of tie lane self.old) (view_of tie lane self.new) }
+        ensures kept { KeepsAtLand claim.root (room_by (view_of [] lane self.old)) result
+            (kept_for lane self.old) (kept_for lane self.new) }
         ensures images { self.new.images ≡ self.old.images }
     {
         match land(
@@ -89,7 +93,8 @@ impl Store {
     /// Ends a claim without its bytes.
     pub(crate) fn miss(&mut self, lane: u32, claim: Claim, why: Miss)
         requires { HoldsClaim (view_of [] lane self.old) claim.root }
-        ensures event { (tie : List ℕ) → Does (view_of tie lane self.old) (view_of tie lane self.new) (IsMissed claim.root why) }
+        ensures event { (tie : List ℕ)
+            → Does (view_of tie lane self.old) (view_of tie lane self.new) (IsMissed claim.root why) }
         ensures kept { KeepsImages (kept_for lane self.old) (kept_for lane self.new) }
         ensures images { self.new.images ≡ self.old.images }
     {
@@ -140,7 +145,8 @@ fn put(
 ) -> Option<FetchEnd>
     requires room { IsSomeAnd (claim_of ledger.old.state.claims root) (IsRoomOf lane (room_in drafts.old lane)) }
     requires enough { length (draft_of drafts.old lane) ≤ room_in drafts.old lane }
-    ensures event { MatchOption result (ledger.new ≡ ledger.old) (λ end. Notes ledger.old lane (acts.Put root (Some end)) ledger.new) }
+    ensures event { MatchOption result (ledger.new ≡ ledger.old)
+        (λ end. Notes ledger.old lane (acts.Put root (Some end)) ledger.new) }
     ensures fits { MatchOption result (length (draft_of drafts.old lane) + length bytes.now ≤ room_in drafts.old lane)
         (λ end. room_in drafts.old lane < length (draft_of drafts.old lane) + length bytes.now) }
     ensures drafts { MatchOption result

@@ -32,7 +32,8 @@ impl Store {
     /// Retains these packages and no others.
     pub(crate) fn retain(&mut self, lane: u32, roots: &[Root]) -> RetainReply
         requires { length roots.now ≤ RETAIN_LIMIT }
-        ensures event { (tie : List ℕ) → Retains roots.now result (view_of tie lane self.old) (view_of tie lane self.new) }
+        ensures event { (tie : List ℕ)
+            → Retains roots.now result (view_of tie lane self.old) (view_of tie lane self.new) }
         ensures kept { Keeps (kept_for lane self.old) (kept_for lane self.new) }
         ensures images { self.new.images ≡ self.old.images }
     {
@@ -81,7 +82,8 @@ fn retain(
 ) -> Result<RetainReply, AllocError>
     requires agrees { Agrees ledger.old }
     requires bytes { AreBytesOf contents.now ledger.old.state.stock }
-    ensures ok { IfOk result (λ reply. Tells lane (IsRetained roots.now (length roots.now) reply) ledger.old ledger.new) }
+    ensures ok { IfOk result (λ reply.
+        Tells lane (IsRetained roots.now (length roots.now) reply) ledger.old ledger.new) }
     ensures err { OnErr result (Stays ledger.old ledger.new) }
 {
     let kept = Roots::make(Vec::from_slice(alloc, roots)?);

@@ -36,7 +36,8 @@ impl Store {
 
     /// Reads a file whole.
     pub(crate) fn read(&mut self, lane: u32, dir: Dir, file: &FilePath) -> ReadReply
-        ensures event { (tie : List ℕ) → Reads dir.number file.now result (view_of tie lane self.old) (view_of tie lane self.new) }
+        ensures event { (tie : List ℕ)
+            → Reads dir.number file.now result (view_of tie lane self.old) (view_of tie lane self.new) }
         ensures kept { Keeps (kept_for lane self.old) (kept_for lane self.new) }
         ensures images { self.new.images ≡ self.old.images }
     {
@@ -55,7 +56,8 @@ impl Store {
 
     /// Tells the root and the length of a file.
     pub(crate) fn check(&mut self, lane: u32, dir: Dir, file: &FilePath) -> CheckReply
-        ensures event { (tie : List ℕ) → Checks dir.number file.now result (view_of tie lane self.old) (view_of tie lane self.new) }
+        ensures event { (tie : List ℕ)
+            → Checks dir.number file.now result (view_of tie lane self.old) (view_of tie lane self.new) }
         ensures kept { Keeps (kept_for lane self.old) (kept_for lane self.new) }
         ensures images { self.new.images ≡ self.old.images }
     {

@@ -47,7 +47,8 @@ impl Store {
         file: ManifestFile,
         why: ManifestFault,
     ) -> RejectReply
-        ensures event { (tie : List ℕ) → Rejects file why result (view_of tie lane self.old) (view_of tie lane self.new) }
+        ensures event { (tie : List ℕ)
+            → Rejects file why result (view_of tie lane self.old) (view_of tie lane self.new) }
         ensures kept { Keeps (kept_for lane self.old) (kept_for lane self.new) }
         ensures images { self.new.images ≡ self.old.images }
     {
@@ -59,7 +60,8 @@ impl Store {
 
     /// Closes a directory.
     pub(crate) fn close(&mut self, lane: u32, dir: Dir) -> CloseReply
-        ensures event { (tie : List ℕ) → Closes dir.number result (view_of tie lane self.old) (view_of tie lane self.new) }
+        ensures event { (tie : List ℕ)
+            → Closes dir.number result (view_of tie lane self.old) (view_of tie lane self.new) }
         ensures kept { Keeps (kept_for lane self.old) (kept_for lane self.new) }
         ensures images { self.new.images ≡ self.old.images }
     {

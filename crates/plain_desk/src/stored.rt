@@ -42,8 +42,8 @@ impl StoredBlobs {
         }
     }
 
-    /// Stores a blob of at most `BYTES_LIMIT` bytes last, unless one with its root is stored, and gives its root. Where memory is wanting, the
-    /// stock is as before.
+    /// Stores a blob of at most `BYTES_LIMIT` bytes last, unless one with its root is stored, and gives its
+    /// root. Where memory is wanting, the stock is as before.
     pub fn put(&mut self, bytes: Bytes) -> Result<Root, AllocError>
         requires { length bytes ≤ BYTES_LIMIT }
         ensures root { IfOk result (λ root. root ≡ merkle_root bytes) }
