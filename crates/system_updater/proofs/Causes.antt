@@ -1,8 +1,7 @@
 -- Each reply follows on its cause.
-use Rattle.std.proofs.Common.{inl, inr, ◌≡◌, ℕ, zero, suc, Bool, true, false, List, [], ◌∷◌, ◌++◌, length, Option, Some, None, Result, Ok, Err, refl, sym, ap, subst, ◌∙◌, append_assoc}
+use Rattle.std.proofs.Common.{inl, inr, ◌≡◌, ℕ, true, List, [], ◌∷◌, ◌++◌, length, Option, Some, None, Result, Ok, Err, refl, sym, ap, subst, ◌∙◌, append_assoc}
 use Rattle.std.specs.Prelude.{◌⊎◌}
 use Rattle.std.proofs.lemmas.List.{append-nil}
-use Rattle.abr_record.specs.declared.Slot.{Slot}
 use Rattle.image_layout.specs.declared.ImageKind.{ImageKind}
 use Rattle.image_layout.specs.declared.Sys.{Sys}
 use Rattle.pkg_names.specs.NameAndVariant.{NameAndVariant}
@@ -17,10 +16,6 @@ use Rattle.update_manifest.specs.Epoch.{epoch_in}
 use Rattle.update_manifest.specs.Packages.{packages_in}
 use Rattle.update_manifest.specs.Images.{images_in}
 use Rattle.store_model.specs.declared.ends.ReadEnd.TheVariants as reads
-use Rattle.store_model.specs.declared.ends.RetainEnd.TheVariants as retains
-use Rattle.store_model.specs.declared.ends.StageEnd.TheVariants as stages
-use Rattle.store_model.specs.declared.ends.ActivateEnd.TheVariants as activations
-use Rattle.store_model.specs.declared.events.Act.{Act}
 use Rattle.store_model.specs.declared.events.Act.TheVariants as acts
 use Rattle.store_model.specs.declared.events.CallName.{CallName}
 use Rattle.store_model.specs.declared.events.CallName.TheVariants as calls
@@ -49,10 +44,10 @@ use Rattle.system_updater.specs.declared.plan.Plan.{Plan}
 use Rattle.system_updater.specs.declared.reply.UpdateReply.{UpdateReply}
 use Rattle.system_updater.specs.declared.reply.UpdateReply.TheVariants as replies
 use Rattle.system_updater.specs.Plan.{name_of, roots_of, sys_of, Task, tasks_of}
-use Rattle.system_updater.specs.Serving.{Point, Prior, next_file, closed, left, image_left, refusal_of, after_resolve, with_epoch, with_packages, with_images, judged, after_read, after_reject, after_stage, after_retain, copy_refusal, after_seal, activation_reply, IsOne, Calls, Resolves, Copies, Follows, Leads, joined, Serves}
+use Rattle.system_updater.specs.Serving.{Point, Prior, next_file, closed, left, image_left, after_resolve, with_epoch, with_packages, with_images, judged, after_read, after_reject, after_stage, after_retain, copy_refusal, after_seal, activation_reply, IsOne, Copies, Follows, Leads, joined, Serves}
 use Rattle.system_updater.specs.Serving.Prior.{NothingRead, EpochRead, PackagesRead}
 use Rattle.system_updater.specs.Serving.Point.{Asking, Reading, Rejecting, Staging, Retaining, Fetching, Filling, Copying, Activating, Closing, Leaving, Ended}
-use Rattle.system_updater.specs.Causes.{IsBadBy, IsBadRead, IsFaultIn, IsBroken, IsTold, IsRejection, IsCause, HasCause}
+use Rattle.system_updater.specs.Causes.{IsBadRead, IsBroken, IsCause, HasCause}
 
 -- the reply of a point from which only ends come
 abbrev end_of : Point → Option UpdateReply

@@ -1,6 +1,6 @@
 -- A close and a stage, in the state where they come.
-use Rattle.std.proofs.Common.{inl, inr, ◌≡◌, ◌≢◌, ℕ, ◌+◌, Bool, true, false, List, [], ◌∷◌, ◌++◌, length, Option, Some, None, refl, sym, ap, subst, ◌∙◌}
-use Rattle.std.specs.Prelude.{◌↔◌, ◌==◌, is_some, if◌then◌else◌}
+use Rattle.std.proofs.Common.{◌≡◌, ◌≢◌, ℕ, ◌+◌, Bool, true, false, List, ◌++◌, length, Option, Some, None, refl, sym, ap, subst, ◌∙◌}
+use Rattle.std.specs.Prelude.{◌==◌, is_some, if◌then◌else◌}
 use Rattle.std.specs.List.{AllPairs}
 use Rattle.std.specs.Option.{option_map}
 use Rattle.std.proofs.lemmas.List.Kept.{AllPairs-filter}
@@ -15,14 +15,13 @@ use Rattle.store_model.specs.declared.ends.StageEnd.{StageEnd}
 use Rattle.store_model.specs.declared.ends.StageEnd.TheVariants as stages
 use Rattle.store_model.specs.declared.replies.Dir.{Dir}
 use Rattle.store_model.specs.declared.replies.StageReply.TheVariants as stage
-use Rattle.store_model.specs.declared.replies.CloseReply.{CloseReply}
 use Rattle.store_model.specs.declared.replies.CloseReply.TheVariants as close
-use Rattle.store_model.specs.History.{Origin, IsLegal, after}
+use Rattle.store_model.specs.History.{after}
 use Rattle.store_model.specs.Holding.{Held}
 use Rattle.store_model.specs.State.{State, Phase, Stage, is_recovery}
 use Rattle.store_model.specs.Step.{IsActDue, IsActDueIf}
-use Rattle.store_model.specs.Lanes.{if_of, stage_of}
-use Rattle.store_model.specs.Acts.Stage.{held_answer, stage_answer}
+use Rattle.store_model.specs.Lanes.{if_of}
+use Rattle.store_model.specs.Acts.Stage.{held_answer}
 use Rattle.store_model.specs.Desk as desk
 use Rattle.store_model.specs.Desk.{View, Rests, state_of, held_by}
 use Rattle.store_model.specs.Replies.{Acts, IsStaged, IsClosed}

@@ -1,6 +1,6 @@
 -- What each call of an update at its desk comes to, by its reply.
-use Rattle.std.proofs.Common.{inl, inr, ◌≡◌, ℕ, ◌+◌, ◌++◌, Bool, true, false, List, [], ◌∷◌, length, Option, Some, None, refl, sym, ap, subst, ◌∙◌}
-use Rattle.std.specs.Prelude.{◌↔◌, ◌⊎◌}
+use Rattle.std.proofs.Common.{inl, inr, ◌≡◌, ℕ, ◌+◌, ◌++◌, true, false, List, [], ◌∷◌, length, Option, Some, None, refl, sym, ap, subst, ◌∙◌}
+use Rattle.std.specs.Prelude.{◌↔◌}
 use Rattle.image_layout.specs.declared.ImageKind.{ImageKind}
 use Rattle.image_layout.specs.declared.Sys.{Sys}
 use Rattle.pkg_names.specs.declared.pinned.Pinned.{Pinned}
@@ -38,7 +38,6 @@ use Rattle.store_model.specs.Holding.{Held}
 use Rattle.store_model.specs.Desk as desk
 use Rattle.store_model.specs.Desk.{View, Rests, held_by}
 use Rattle.store_model.specs.Replies.{IsRead, IsRejected, IsStaged, IsRetained, IsCopied, IsSealed, IsActivated, HasLeftStage, IsClosed}
-use Rattle.store_model.specs.State.{Phase}
 use Rattle.store_model.specs.State.Phase.{Filling as Fills, Sealed, Done}
 use Rattle.store_model.specs.Calls as call
 use Rattle.store_model.proofs.CallsHeld.{staged, sealed, activated, left_stage, closed as closed_dir}
@@ -52,7 +51,7 @@ use Rattle.system_updater.specs.declared.reply.UpdateReply.TheVariants as replie
 use Rattle.system_updater.specs.declared.plan.Plan.{Plan}
 use Rattle.system_updater.specs.Plan.{name_of, roots_of, sys_of, Task}
 use Rattle.system_updater.specs.Serving.{Point, Prior, next_file, IsOne, Follows, closed, left, image_left, Copies, after_read, after_reject, after_stage, after_retain, copy_refusal, after_seal, activation_reply}
-use Rattle.system_updater.specs.Serving.Point.{Reading, Rejecting, Staging, Retaining, Fetching, Filling, Copying, Activating, Closing, Leaving}
+use Rattle.system_updater.specs.Serving.Point.{Reading, Rejecting, Staging, Retaining, Filling, Copying, Activating, Closing, Leaving}
 use Rattle.system_updater.specs.Holding.{IsOpen, IsHeldAt, HoldsAt}
 use Rattle.system_updater.specs.Holding as holding
 use Rattle.system_updater.specs.Viewing.{Told}

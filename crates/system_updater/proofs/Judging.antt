@@ -1,11 +1,9 @@
 -- What was read of a manifest is judged.
-use Rattle.std.proofs.Common.{◌≡◌, ℕ, List, [], Option, Result, Ok, Err, refl, sym, ap, subst, ◌∙◌}
+use Rattle.std.proofs.Common.{ℕ, List, Option, Result, Ok, Err, sym, ap}
 use Rattle.store_model.specs.declared.replies.Dir.{Dir}
 use Rattle.store_model.specs.Desk.{View, held_by}
-use Rattle.store_model.specs.Holding.{Held}
 use Rattle.system_updater.specs.declared.manifests.Refusal.{Refusal}
 use Rattle.system_updater.specs.declared.manifests.Refusal.TheVariants as refusals
-use Rattle.system_updater.specs.declared.reply.UpdateReply.{UpdateReply}
 use Rattle.system_updater.specs.declared.reply.UpdateReply.TheVariants as replies
 use Rattle.system_updater.specs.Serving.{Point, Prior, closed, judged}
 use Rattle.system_updater.specs.Viewing.{Told}

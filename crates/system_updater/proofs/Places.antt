@@ -1,10 +1,7 @@
 -- What the lane holds from one point to the next.
-use Rattle.std.proofs.Common.{inl, inr, ◌≡◌, ◌≢◌, ℕ, ◌+◌, zero, suc, Bool, true, false, List, [], ◌∷◌, ◌++◌, length, length-append, get_or, ◌<◌, Option, Some, None, Result, Ok, Err, refl, sym, ap, subst, ◌∙◌, arith}
-use Rattle.std.specs.Prelude.{◌==◌, ◌&&◌, ◌⊎◌}
-use Rattle.std.specs.List.{AllPairs, find}
-use Rattle.std.specs.Option.{option_map}
+use Rattle.std.proofs.Common.{inl, inr, ◌≡◌, ◌≢◌, ℕ, suc, true, false, List, [], ◌∷◌, ◌++◌, length, length-append, get_or, ◌<◌, Option, Some, None, Result, Ok, Err, refl, sym, ap, subst, ◌∙◌, arith}
+use Rattle.std.specs.List.{AllPairs}
 use Rattle.std.proofs.lemmas.Bool.{cases_Bool, eq-eqb, ne_eqb}
-use Rattle.std.proofs.lemmas.List.Kept.{AllPairs-filter}
 use Rattle.open_tracker.specs.declared.dirs.DirEntry.{DirEntry}
 use Rattle.open_tracker.specs.Directories.{is_of, root_of, without}
 use Rattle.pkg_names.specs.declared.pinned.Pinned.{Pinned}
@@ -15,17 +12,13 @@ use Rattle.update_manifest.specs.Epoch.{epoch_in}
 use Rattle.update_manifest.specs.Packages.{packages_in}
 use Rattle.update_manifest.specs.Images.{images_in}
 use Rattle.store_model.specs.declared.replies.Dir.{Dir}
-use Rattle.store_model.specs.History.{IsLegal, Origin, after}
 use Rattle.store_model.specs.Holding.{Held}
-use Rattle.store_model.specs.State.{Phase, State}
-use Rattle.store_model.specs.Desk.{View, held_by}
-use Rattle.store_model.specs.Held.{HoldsAsState}
+use Rattle.store_model.specs.State.{Phase}
 use Rattle.system_updater.specs.declared.reply.UpdateReply.{UpdateReply}
 use Rattle.system_updater.specs.declared.reply.UpdateReply.TheVariants as replies
-use Rattle.system_updater.specs.Serving.{Point, Prior, with_epoch, with_packages, with_images, judged, closed, left, image_left, Follows}
-use Rattle.system_updater.specs.Serving.Point.{Rejecting}
+use Rattle.system_updater.specs.Serving.{Point, Prior, with_epoch, with_packages, with_images, judged, closed, left, Follows}
 use Rattle.system_updater.specs.Serving.Prior.{NothingRead, EpochRead, PackagesRead}
-use Rattle.system_updater.specs.Holding.{WithDir, WithStage, IsOpen, IsStaged, IsHeldAt}
+use Rattle.system_updater.specs.Holding.{IsOpen, IsStaged, IsHeldAt}
 
 -- ---- ends
 

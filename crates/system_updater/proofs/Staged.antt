@@ -1,6 +1,5 @@
 -- A run that ends staged, from each of its points on.
-use Rattle.std.proofs.Common.{inl, inr, ◌≡◌, ℕ, zero, suc, Bool, true, false, List, [], ◌∷◌, ◌++◌, length, Option, Some, None, Result, Ok, Err, refl, sym, ap, subst, ◌∙◌}
-use Rattle.std.specs.Prelude.{◌⊎◌}
+use Rattle.std.proofs.Common.{inl, inr, ◌≡◌, ℕ, suc, true, false, List, [], ◌∷◌, ◌++◌, length, Option, Some, None, Result, Ok, Err, refl, sym, ap, subst, ◌∙◌}
 use Rattle.abr_record.specs.declared.Slot.{Slot}
 use Rattle.image_layout.specs.declared.ImageKind.{ImageKind}
 use Rattle.image_layout.specs.declared.Sys.{Sys}
@@ -20,7 +19,6 @@ use Rattle.store_model.specs.declared.ends.ActivateEnd.TheVariants as activation
 use Rattle.store_model.specs.declared.events.Act.{Act}
 use Rattle.store_model.specs.declared.events.Act.TheVariants as acts
 use Rattle.store_model.specs.declared.events.CallName.TheVariants as calls
-use Rattle.store_model.specs.declared.events.Event.{Event}
 use Rattle.store_model.specs.declared.replies.Dir.{Dir}
 use Rattle.store_model.specs.declared.replies.ReadReply.{ReadReply}
 use Rattle.store_model.specs.declared.replies.ReadReply.TheVariants as read
@@ -45,10 +43,10 @@ use Rattle.system_updater.specs.declared.plan.Plan.{Plan}
 use Rattle.system_updater.specs.declared.reply.UpdateReply.{UpdateReply}
 use Rattle.system_updater.specs.declared.reply.UpdateReply.TheVariants as replies
 use Rattle.system_updater.specs.Plan.{name_of, roots_of, sys_of, Task}
-use Rattle.system_updater.specs.Serving.{Point, Prior, next_file, closed, left, image_left, refusal_of, after_resolve, with_epoch, with_packages, with_images, judged, after_read, after_reject, after_stage, after_retain, copy_refusal, after_seal, activation_reply, IsOne, Calls, Resolves, Copies, Follows, Leads, joined, Serves}
+use Rattle.system_updater.specs.Serving.{Point, Prior, next_file, closed, left, refusal_of, after_resolve, with_epoch, with_packages, with_images, judged, after_read, after_reject, after_stage, after_retain, copy_refusal, after_seal, activation_reply, IsOne, Resolves, Copies, Follows, Leads, joined, Serves}
 use Rattle.system_updater.specs.Serving.Prior.{NothingRead, EpochRead, PackagesRead}
 use Rattle.system_updater.specs.Serving.Point.{Asking, Reading, Rejecting, Staging, Retaining, Fetching, Filling, Copying, Activating, Closing, Leaving, Ended}
-use Rattle.system_updater.specs.Laws.{Mark, mark_of, mark_if, with_mark, marks, asked, IsInOrder}
+use Rattle.system_updater.specs.Laws.{Mark, mark_of, with_mark, marks, asked, IsInOrder}
 use Rattle.system_updater.specs.Laws.Mark.{Asked, Taken, Retained, SealedSlot, Activated, Left}
 use Rattle.system_updater.proofs.Marks.{marks_then, no_mark, marks_this, resolved_marks}
 

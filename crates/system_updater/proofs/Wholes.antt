@@ -1,5 +1,5 @@
 -- What is held from one step of an update to the next, and what the steps of a whole update come to.
-use Rattle.std.proofs.Common.{inl, ◌≡◌, ℕ, List, [], ◌∷◌, Option, Some, None, Result, Ok, Err, refl, sym, ap, subst, ◌∙◌}
+use Rattle.std.proofs.Common.{inl, ◌≡◌, ℕ, List, ◌∷◌, Option, Some, Result, Ok, Err, refl, sym, ap, subst, ◌∙◌}
 use Rattle.std.specs.Prelude.{◌↔◌}
 use Rattle.pkg_names.specs.NameAndVariant.{NameAndVariant}
 use Rattle.pkg_names.specs.declared.pinned.Pinned.{Pinned}
@@ -19,14 +19,14 @@ use Rattle.resolver.specs.Viewing.{Resolves as Resolved, IsHeldAfter}
 use Rattle.system_updater.specs.declared.reply.UpdateReply.{UpdateReply}
 use Rattle.system_updater.specs.declared.plan.Plan.{Plan}
 use Rattle.system_updater.specs.Plan.{Task}
-use Rattle.system_updater.specs.Serving.{Point, Prior, Follows, Resolves, closed, left, refusal_of, after_resolve, joined}
+use Rattle.system_updater.specs.Serving.{Point, Follows, Resolves, left, refusal_of, after_resolve, joined}
 use Rattle.system_updater.specs.Serving.Point.{Asking, Reading, Rejecting, Staging, Retaining, Fetching, Filling, Copying, Activating, Closing, Leaving, Ended}
 use Rattle.system_updater.specs.Serving.Prior.{NothingRead}
-use Rattle.system_updater.specs.Holding.{WithDir, WithStage, IsStaged, IsHeldAt, HoldsAt}
+use Rattle.system_updater.specs.Holding.{WithDir, IsStaged, IsHeldAt, HoldsAt}
 use Rattle.system_updater.specs.Viewing.{Told, told, Updates}
 use Rattle.system_updater.specs.Steps.{Goes, or_left, or_image_left}
 use Rattle.system_updater.proofs.Goes.{goes_leg, does_resolve}
-use Rattle.system_updater.proofs.Places.{open_closed, staged_left}
+use Rattle.system_updater.proofs.Places.{staged_left}
 
 -- ---- what is held
 

@@ -6,7 +6,6 @@ use Rattle.store_model.specs.declared.ends.RetainEnd.TheVariants as retains
 use Rattle.store_model.specs.declared.ends.StageEnd.TheVariants as stages
 use Rattle.store_model.specs.declared.events.Act.{Act}
 use Rattle.store_model.specs.declared.events.Act.TheVariants as acts
-use Rattle.store_model.specs.declared.events.Event.{Event}
 use Rattle.store_model.specs.History.{Numbered}
 
 -- what an event does for an update: a package is asked for, a slot is taken, packages are retained, the slot is

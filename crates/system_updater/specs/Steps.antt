@@ -1,5 +1,5 @@
 -- What the steps of an update come to. These definitions serve its proof; no public clause cites them.
-use Rattle.std.specs.Prelude.{◌≡◌, ◌⊎◌, ◌↔◌, ℕ, List, ◌++◌, Option, Some, None, Result, Ok, Err, All}
+use Rattle.std.specs.Prelude.{◌≡◌, ◌↔◌, List, ◌++◌, Some, Result, Ok, Err, All}
 use Rattle.pkg_names.specs.Streams.{RoseBy}
 use Rattle.pkg_names.specs.declared.pinned.Pinned.{Pinned}
 use Rattle.repo_source.specs.declared.file.RepoFile.{RepoFile}

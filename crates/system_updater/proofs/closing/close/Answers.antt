@@ -1,5 +1,4 @@
 use Rattle.system_updater.proofs.Desks.{close_goes}
-use Rattle.system_updater.proofs.Wholes.{whole}
 use Rattle.system_updater.proofs.closing.close.Goals as goal
 
 pub returns : goal.returns

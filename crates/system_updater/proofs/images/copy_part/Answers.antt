@@ -1,4 +1,4 @@
-use Rattle.std.proofs.Common.{◌≡◌, ℕ, List, Option, Some, sym, ap, subst, ◌∙◌}
+use Rattle.std.proofs.Common.{◌≡◌, ℕ, List, Some, sym, subst}
 use Rattle.std.specs.Prelude.{◌↔◌}
 use Rattle.image_layout.specs.declared.ImageKind.{ImageKind}
 use Rattle.store_model.specs.declared.replies.Dir.{Dir}

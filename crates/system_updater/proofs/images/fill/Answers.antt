@@ -1,8 +1,8 @@
-use Rattle.std.proofs.Common.{◌≡◌, ◌∷◌, refl, sym, ap, ◌∙◌}
+use Rattle.std.proofs.Common.{◌∷◌, refl, sym, ap, ◌∙◌}
 use Rattle.store_model.specs.declared.replies.Dir.{Dir}
 use Rattle.resolver.specs.declared.reply.ResolveReply.TheVariants as resolved
 use Rattle.system_updater.specs.Plan.{Task}
-use Rattle.system_updater.specs.Serving.{left, refusal_of}
+use Rattle.system_updater.specs.Serving.{left}
 use Rattle.system_updater.specs.Serving.Point.{Filling, Copying}
 use Rattle.system_updater.specs.Viewing.{told}
 use Rattle.system_updater.specs.Steps.{or_left, or_image_left}

@@ -1,9 +1,7 @@
-use Rattle.std.proofs.Common.{◌≡◌, List, [], ◌∷◌, Option, Some, refl, sym, ap, subst}
+use Rattle.std.proofs.Common.{◌≡◌, List, [], ◌∷◌, Some, refl, ap, subst}
 use Rattle.image_layout.specs.declared.ImageKind.TheVariants as kinds
 use Rattle.store_model.specs.declared.replies.Dir.{Dir}
 use Rattle.store_model.specs.Desk.{View}
-use Rattle.store_model.specs.Calls.{HoldsNoClaim, HoldsStage}
-use Rattle.store_model.specs.State.Phase.{Filling as Fills}
 use Rattle.update_manifest.specs.declared.image.ImageRef.{ImageRef}
 use Rattle.update_manifest.specs.declared.image.Images.{Images}
 use Rattle.system_updater.specs.declared.plan.Plan.{Plan}
@@ -11,7 +9,7 @@ use Rattle.system_updater.specs.Plan.{Task, tasks_of}
 use Rattle.system_updater.specs.Serving.Point.{Filling}
 use Rattle.system_updater.specs.Holding.{HoldsAt}
 use Rattle.system_updater.specs.Viewing.{Told}
-use Rattle.system_updater.specs.Steps.{Goes, IsFilling}
+use Rattle.system_updater.specs.Steps.{Goes}
 use Rattle.system_updater.proofs.Goes.{goes_then, goes_at}
 use Rattle.system_updater.proofs.Wholes.{no_claim, filling_stage, holds_then}
 use Rattle.system_updater.proofs.images.fill_all.Goals as goal

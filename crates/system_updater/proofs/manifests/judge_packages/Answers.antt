@@ -1,4 +1,4 @@
-use Rattle.std.proofs.Common.{inl, inr, ◌≡◌, ◌≤◌, ◌⊎◌, ℕ, List, [], length, Bool, true, false, Option, Some, None, Result, Ok, Err, sym, ◌∙◌}
+use Rattle.std.proofs.Common.{inl, inr, ◌≡◌, ◌≤◌, ◌⊎◌, ℕ, List, [], length, Bool, true, false, Option, Some, None, Result, Ok, Err, sym}
 use Rattle.std.specs.Prelude.{◌↔◌, codes, option_and_then, if◌then◌else◌}
 use Rattle.serde_json.specs.Data.{Data, Items}
 use Rattle.serde_json.specs.Find.{get, as_array}
@@ -14,7 +14,7 @@ use Rattle.system_lists.specs.Document.{document_in, entries}
 use Rattle.system_lists.specs.Entries.{listed, IsMadeOf}
 use Rattle.system_lists.specs.Lists.{has_path_of, is_among}
 use Rattle.system_lists.specs.Judging.{system_path}
-use Rattle.update_manifest.specs.Packages.{with_system, packages_of, packages_in}
+use Rattle.update_manifest.specs.Packages.{packages_of, packages_in}
 use Rattle.system_updater.proofs.manifests.judge_packages.Goals as goal
 
 of_if : (b : Bool) (all packages : List Pinned) → ◌≡◌ {A = Result (List Pinned) ManifestFault} (if b then Ok all else Err faults.NoSystem) (Ok packages) → all ≡ packages

@@ -1,6 +1,4 @@
-use Rattle.std.proofs.Common.{◌≡◌, Result, Err, ap, sym, rules}
-use Rattle.system_updater.specs.declared.manifests.Refusal.{Refusal}
-use Rattle.system_updater.specs.declared.plan.Plan.{Plan}
+use Rattle.std.proofs.Common.{◌≡◌, Err, ap, rules}
 use Rattle.system_updater.specs.Serving.Point.{Staging}
 use Rattle.system_updater.specs.Steps.{or_refused}
 use Rattle.system_updater.proofs.Goes.{goes_then, goes_to}

@@ -1,12 +1,11 @@
 use Rattle.std.proofs.Common.{◌≡◌, inr, sym, ap, subst, ◌∙◌, refl, List, ℕ, Option, Some, None, Ok, Err, Result}
 use Rattle.std.specs.Prelude.{◌↔◌}
-use Rattle.pkg_names.specs.declared.root.Root.{Root}
 use Rattle.system_lists.specs.declared.fault.ManifestFile.{ManifestFile}
 use Rattle.system_lists.specs.declared.fault.ManifestFault.TheVariants as faults
 use Rattle.store_model.specs.declared.replies.ReadReply.{ReadReply}
 use Rattle.store_model.specs.declared.replies.ReadReply.TheVariants as read
 use Rattle.store_model.specs.declared.replies.Dir.{Dir}
-use Rattle.store_model.specs.Desk.{View, held_by}
+use Rattle.store_model.specs.Desk.{View}
 use Rattle.store_model.specs.Calls.{Reads}
 use Rattle.system_updater.specs.declared.manifests.Refusal.{Refusal}
 use Rattle.system_updater.specs.declared.manifests.Refusal.TheVariants as refusals

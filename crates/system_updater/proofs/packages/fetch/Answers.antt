@@ -1,9 +1,8 @@
-use Rattle.std.proofs.Common.{◌≡◌, ◌∷◌, inr, refl, sym, ap, subst, ◌∙◌}
+use Rattle.std.proofs.Common.{◌≡◌, ◌∷◌, inr, refl, sym, ap, ◌∙◌}
 use Rattle.store_model.specs.declared.replies.Dir.{Dir}
 use Rattle.store_model.specs.State.Phase.{Filling as Fills}
 use Rattle.store_model.specs.Desk.{held_by}
 use Rattle.resolver.specs.declared.reply.ResolveReply.TheVariants as resolved
-use Rattle.system_updater.specs.declared.reply.UpdateReply.{UpdateReply}
 use Rattle.system_updater.specs.declared.reply.UpdateReply.TheVariants as replies
 use Rattle.system_updater.specs.Serving.{left, refusal_of}
 use Rattle.system_updater.specs.Serving.Point.{Fetching, Closing}

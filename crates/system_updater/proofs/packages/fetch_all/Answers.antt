@@ -1,14 +1,13 @@
-use Rattle.std.proofs.Common.{◌≡◌, ◌+◌, ◌<◌, ℕ, suc, List, [], ◌∷◌, length, get_or, drop, drop-cons, add-one, Result, Err, refl, sym, ap, subst, ◌∙◌, arith, rules}
+use Rattle.std.proofs.Common.{◌≡◌, ◌+◌, ◌<◌, ℕ, suc, List, [], ◌∷◌, length, get_or, drop, drop-cons, add-one, Err, sym, ap, ◌∙◌, arith, rules}
 use Rattle.std.proofs.Math.Seq.{drop-length}
 use Rattle.pkg_names.specs.declared.pinned.Pinned.{Pinned}
 use Rattle.store_model.specs.declared.replies.Dir.{Dir}
 use Rattle.store_model.specs.Desk.{View}
 use Rattle.system_updater.specs.declared.plan.Plan.{Plan}
-use Rattle.system_updater.specs.declared.reply.UpdateReply.{UpdateReply}
 use Rattle.system_updater.specs.Serving.{Point}
 use Rattle.system_updater.specs.Serving.Point.{Fetching}
 use Rattle.system_updater.specs.Holding.{HoldsAt}
-use Rattle.system_updater.specs.Viewing.{Told, told}
+use Rattle.system_updater.specs.Viewing.{Told}
 use Rattle.system_updater.specs.Steps.{Goes, or_left}
 use Rattle.system_updater.proofs.Goes.{goes_none, goes_then, goes_to}
 use Rattle.system_updater.proofs.Wholes.{no_claim, holds_then}

@@ -1,4 +1,4 @@
-use Rattle.std.proofs.Common.{◌≡◌, drop}
+use Rattle.std.proofs.Common.{drop}
 use Rattle.store_model.specs.declared.replies.Dir.{Dir}
 use Rattle.system_updater.specs.declared.plan.Plan.{Plan}
 use Rattle.system_updater.specs.Serving.Point.{Fetching}

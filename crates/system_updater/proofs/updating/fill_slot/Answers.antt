@@ -1,15 +1,14 @@
-use Rattle.std.proofs.Common.{◌≡◌, List, [], Result, Err, refl, sym, ap, ◌∙◌, rules}
+use Rattle.std.proofs.Common.{◌≡◌, List, [], Err, refl, sym, ap, rules}
 use Rattle.pkg_names.specs.declared.pinned.Pinned.{Pinned}
 use Rattle.store_model.specs.declared.replies.Dir.{Dir}
-use Rattle.store_model.specs.Desk.{View, held_by}
-use Rattle.store_model.specs.Calls.{HoldsStage}
+use Rattle.store_model.specs.Desk.{View}
 use Rattle.system_updater.specs.declared.plan.Plan.{Plan}
 use Rattle.system_updater.specs.Plan.{sys_of, tasks_of}
 use Rattle.system_updater.specs.Serving.Point.{Retaining, Fetching, Filling, Activating}
 use Rattle.system_updater.specs.Holding.{HoldsAt}
 use Rattle.system_updater.specs.Viewing.{Told, told}
 use Rattle.system_updater.specs.Steps.{Goes, or_left}
-use Rattle.system_updater.proofs.Goes.{goes_then, goes_to, goes_at, goes_pass}
+use Rattle.system_updater.proofs.Goes.{goes_then, goes_to, goes_pass}
 use Rattle.system_updater.proofs.Wholes.{filling_stage, holds_then}
 use Rattle.system_updater.proofs.updating.fill_slot.Goals as goal
 

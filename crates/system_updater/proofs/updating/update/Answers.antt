@@ -1,4 +1,4 @@
-use Rattle.std.proofs.Common.{◌≡◌, refl, sym, ap, ◌∙◌}
+use Rattle.std.proofs.Common.{sym, ap, ◌∙◌}
 use Rattle.store_model.specs.declared.replies.Dir.{Dir}
 use Rattle.resolver.specs.declared.reply.ResolveReply.TheVariants as resolved
 use Rattle.system_updater.specs.Serving.{closed}
