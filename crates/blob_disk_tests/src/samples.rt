@@ -84,7 +84,7 @@ pub enum Came {
     LandBroke,
 }
 
-// How it ended that a draft landed, of which nothing else is known.
+// How a landing ended that gave these bytes back, or broke.
 fn how_it_landed(end: Option<LandEnd>, bytes: &[u8]) -> Result<Came, Fail> {
     match end {
         Some(LandEnd::Landed(Some(kept))) if kept.as_slice() == bytes => Ok(Came::Landed),
