@@ -33,7 +33,8 @@ use Rattle.plain_stock.specs.Contents.{AreBytesOf}
 use Rattle.store_model.specs.Systems.{seen_bytes}
 use Rattle.store_model.specs.declared.events.Act.{Act}
 use Rattle.plain_ledger.specs.Ledgers.{LedgerOf, Agrees, Notes, event_by, next_number}
-pub use Rattle.plain_drafts.specs.Drafts.{DraftOf, Drafted, added, bytes_in, len_in, draft_of, draft_with, room_in, without_draft}
+pub use Rattle.plain_drafts.specs.Drafts.{DraftOf, Drafted, added, bytes_in, len_in, draft_of, draft_with}
+pub use Rattle.plain_drafts.specs.Drafts.{room_in, without_draft}
 pub use Rattle.plain_drafts.specs.Images.{ImagesOf, IsAppended, image_of}
 
 -- what contracts see of a store
