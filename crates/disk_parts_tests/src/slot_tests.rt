@@ -3,6 +3,7 @@ use crate::tables::{is_zero_from, put, root};
 use abr_record::{Record, Slot};
 use disk_model::{Disk, FuseDisk, MemDisk, Pick, restart};
 use image_layout::{Geometry, ImageKind, ImageSum, Sys};
+use sha2::{Digest, Sha256};
 use slot_disk::{Filling, SealEnd, SlotEnd, SlotFault, Slots};
 use std::alloc::{AllocError, Global};
 use std::test::Fail;
@@ -327,6 +328,33 @@ fn wrong_slots(rt: HostRuntime) -> Result<(), Fail> {
             Some(Err(found)) => assert_eq!(rt; Some(found), fault, "{page} {at}"),
             None => assert!(rt; false),
         }
+    }
+    Ok(())
+}
+
+// A header of A for images of these lengths, with its digest.
+fn header_of(zbi: u64, vbmeta: u64) -> [u8; 156] {
+    let mut bytes = [0u8; 156];
+    bytes[..4].copy_from_slice(b"SLOT");
+    bytes[44..52].copy_from_slice(&zbi.to_le_bytes());
+    bytes[84..92].copy_from_slice(&vbmeta.to_le_bytes());
+    let digest = Sha256::digest(&bytes[..124]);
+    bytes[124..].copy_from_slice(&digest);
+    bytes
+}
+
+// The digest is right, and one image is a byte longer than its area.
+#[test]
+fn headers_of_long_images(rt: HostRuntime) -> Result<(), Fail> {
+    for (zbi, vbmeta) in [(8193, 0), (0, 65_537)] {
+        let Some((mut disk, _)) = plain(rt.alloc())? else {
+            return Err(Fail::new("no slots"));
+        };
+        assert!(rt; put(&mut disk, 7, 0, &header_of(zbi, vbmeta)));
+        let Some(Err(found)) = loaded(&mut disk) else {
+            return Err(Fail::new("loaded"));
+        };
+        assert_eq!(rt; found, SlotFault::Damaged { slot: Slot::A }, "{zbi}");
     }
     Ok(())
 }
