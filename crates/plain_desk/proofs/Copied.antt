@@ -1,8 +1,8 @@
 -- Copies of files into images.
-use Rattle.std.proofs.Common.{◌≡◌, ◌≢◌, ◌<◌, ◌≤◌, ℕ, ◌+◌, ◌-◌, Bool, true, false, cond, inl, inr, List, [], ◌∷◌, ◌++◌, length, take, drop, get_or, Option, Some, None, refl, sym, ap, subst, arith, length-append, length-take, length-drop, ◌∙◌}
+use Rattle.std.proofs.Common.{◌≡◌, ◌<◌, ◌≤◌, ℕ, ◌+◌, ◌-◌, Bool, true, false, cond, inl, inr, List, ◌++◌, length, take, drop, get_or, Option, Some, None, refl, sym, ap, subst, arith, length-append, length-take, length-drop, ◌∙◌}
 use Rattle.std.specs.Prelude.{min, IfSome, ◌==◌}
 use Rattle.std.proofs.lemmas.List.{take_min, get_or_append_left, get_or-append_right, get_or-take, get_or-drop}
-use Rattle.std.proofs.lemmas.Bool.{cases_Bool, cases_lt, eqb-true}
+use Rattle.std.proofs.lemmas.Bool.{cases_lt, eqb-true}
 use Rattle.store_model.specs.declared.ends.TheConstants.{PIECE_LIMIT}
 use Rattle.pkg_names.specs.declared.root.Root.{Root}
 use Rattle.pkg_names.specs.Root.{root_eq}

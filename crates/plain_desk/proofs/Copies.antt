@@ -4,7 +4,6 @@ use Rattle.std.specs.Prelude.{IfSome}
 use Rattle.pkg_merkle.specs.Merkle.{merkle_root}
 use Rattle.image_layout.specs.declared.ImageKind.{ImageKind}
 use Rattle.pkg_names.specs.declared.root.Root.{Root}
-use Rattle.store_model.specs.declared.events.Event.{Event}
 use Rattle.store_model.specs.declared.events.LookedAt.{LookedAt}
 use Rattle.store_model.specs.declared.replies.CopyReply.{CopyReply}
 use Rattle.store_model.specs.declared.replies.CopyReply.TheVariants as copy
@@ -16,9 +15,9 @@ use Rattle.store_model.specs.Desk.{Fillers, IsUnbroken, Keeps, Rests, filler_of}
 use Rattle.store_model.specs.Replies.{IsCopied}
 use Rattle.store_model.specs.Calls.{Copies, CopiesPart, IsMadeOf, IsWholeFile, KeepsAtCopy}
 use Rattle.store_model.proofs.SameBooks.{copy_same, found_same}
-use Rattle.plain_ledger.specs.Ledgers.{LedgerOf, Agrees, Stays, Tells}
+use Rattle.plain_ledger.specs.Ledgers.{LedgerOf, Agrees}
 use Rattle.plain_desk.specs.Stores.{AreFilled, DraftOf, ImagesOf, StoreOf, IsStore, image_of, kept_for, view_of}
-use Rattle.plain_desk.specs.Copying.{CameFrom, CopiedBy, IsCopiedBy, IsCopiedFile, IsSource}
+use Rattle.plain_desk.specs.Copying.{CameFrom, CopiedBy, IsSource}
 use Rattle.plain_desk.proofs.Stores.{moved, rests, stays_moves, still, store_of, tells, tells_moves, unbroken_at, view_at}
 use Rattle.plain_desk.proofs.Filled.{all_kept}
 use Rattle.plain_desk.proofs.Copied.{AreOf, copies_part, filled_on, filler_is}

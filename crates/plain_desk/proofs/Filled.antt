@@ -1,12 +1,11 @@
 -- Calls on an update, as they are promised at a desk.
-use Rattle.std.proofs.Common.{◌≡◌, ℕ, false, List, [], ◌∷◌, Option, Some, None, refl, sym, ap, subst, ◌∙◌}
+use Rattle.std.proofs.Common.{◌≡◌, ℕ, false, List, [], Option, Some, None, refl, sym, ap, subst, ◌∙◌}
 use Rattle.std.specs.Prelude.{◌<◌, IfSome, IsSomeAnd, length}
 use Rattle.image_layout.specs.declared.ImageKind.{ImageKind}
 use Rattle.image_layout.specs.declared.ImageKind.TheVariants as images
 use Rattle.image_layout.specs.declared.Sys.{Sys}
 use Rattle.image_layout.specs.Sums.{image_sum}
 use Rattle.store_model.specs.declared.events.Act.{Act}
-use Rattle.store_model.specs.declared.events.Act.TheVariants as acts
 use Rattle.store_model.specs.declared.events.Event.{Event}
 use Rattle.store_model.specs.declared.events.LookedAt.{LookedAt}
 use Rattle.store_model.specs.declared.replies.ActivateReply.{ActivateReply}
@@ -21,18 +20,15 @@ use Rattle.store_model.specs.State.{State, Stage, Phase, IsStageOf}
 use Rattle.store_model.specs.State.Phase.{Sealed}
 use Rattle.store_model.specs.Acts.LeftStage.{IsDueLeftStage}
 use Rattle.store_model.specs.Footprints.{footprint_of}
-use Rattle.store_model.specs.History.{of_lane}
-use Rattle.store_model.specs.Holding.{held}
-use Rattle.store_model.specs.Step.{next}
 use Rattle.store_model.specs.Desk.{View, Fillers, Does, Keeps, filler_of, no_fillers}
 use Rattle.store_model.specs.Desk.Keeping.{Blob, Image}
 use Rattle.store_model.specs.Replies.{IsActivated, IsCommitted, IsSealed, IsStaged}
 use Rattle.store_model.specs.Calls.{Activates, Commits, Seals, Stages, KeepsAtSeal, KeepsAtStage, HasByteOf, HoldsAnyStage, HoldsSealed, HoldsStage}
 use Rattle.store_model.proofs.Frames.{keeps_next}
 use Rattle.plain_state.specs.Holdings.{sealed_in}
-use Rattle.plain_ledger.specs.Ledgers.{LedgerOf, Agrees, Notes, Stays, Tells, event_by, next_number}
+use Rattle.plain_ledger.specs.Ledgers.{LedgerOf, Agrees, Notes, Tells, event_by, next_number}
 use Rattle.plain_desk.specs.Stores.{AreFilled, DraftOf, ImagesOf, StoreOf, IsStore, image_of, kept_for, view_of}
-use Rattle.plain_desk.specs.Filling.{IsDifference, HaveSums, HaveSumsBefore, IsSealedOf, StagedBy, images_at_stage}
+use Rattle.plain_desk.specs.Filling.{IsSealedOf, StagedBy, images_at_stage}
 use Rattle.plain_desk.proofs.Stores.{Moves, handles, here, moved, rests, stays_moves, store_of, tells, tells_moves, told, view_at}
 
 -- ---- the reply tells the event

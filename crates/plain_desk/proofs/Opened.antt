@@ -1,6 +1,5 @@
 -- A store that has booted holds what a store holds.
-use Rattle.std.proofs.Common.{◌≡◌, ℕ, ◌≤◌, Bool, true, false, eqb, cond, List, [], ◌∷◌, length, None, refl, sym, ap, subst, ◌∙◌, arith}
-use Rattle.std.proofs.lemmas.Bool.{cases_Bool}
+use Rattle.std.proofs.Common.{◌≡◌, ℕ, Bool, true, false, eqb, List, [], ◌∷◌, refl, sym, ap, subst, ◌∙◌, arith}
 use Rattle.abr_record.specs.declared.Slot.{Slot}
 use Rattle.image_layout.specs.declared.ImageKind.TheVariants as images
 use Rattle.image_layout.specs.declared.geometry.Geometry.{Geometry}
@@ -8,7 +7,6 @@ use Rattle.store_model.specs.declared.events.Act.TheVariants as acts
 use Rattle.store_model.specs.declared.events.LookedAt.{LookedAt}
 use Rattle.store_model.specs.State.{Standing, State, opened}
 use Rattle.store_model.specs.Acts.Boot.{next_boot}
-use Rattle.store_model.specs.Mirrors.{Mirrors}
 use Rattle.plain_stock.specs.Contents.{AreBytesOf}
 use Rattle.plain_state.specs.Learning.{IsSettled}
 use Rattle.plain_ledger.specs.Ledgers.{LedgerOf, Begins, event_by, origin_of}

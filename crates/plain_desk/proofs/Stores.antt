@@ -1,5 +1,5 @@
 -- A call of a ledger, as a call at a desk.
-use Rattle.std.proofs.Common.{◌≡◌, ◌≢◌, ◌≤◌, ℕ, ◌+◌, Bool, true, false, cond, inl, inr, List, [], ◌∷◌, ◌++◌, length, All, append-nil, Option, Some, None, refl, sym, ap, subst, arith, eq-eqb, ◌∙◌}
+use Rattle.std.proofs.Common.{◌≡◌, ◌≢◌, ◌≤◌, ℕ, ◌+◌, Bool, true, false, cond, inl, inr, List, [], ◌∷◌, ◌++◌, length, append-nil, Option, Some, None, refl, sym, ap, subst, arith, eq-eqb, ◌∙◌}
 use Rattle.std.specs.Prelude.{IsSomeAnd, ◌==◌, Result, Ok, Err, IfOk, OnErr, map, filter}
 use Rattle.std.specs.Option.{option_to_list}
 use Rattle.fetch_queue.specs.declared.queue.ClaimEntry.{ClaimEntry}
@@ -19,7 +19,6 @@ use Rattle.store_model.specs.History.{Numbered, Origin, after, of_lane}
 use Rattle.store_model.specs.Footprints.{footprint_of}
 use Rattle.store_model.specs.Held.{HasHandles, IsTicketIn, claim_in}
 use Rattle.store_model.specs.Files.{found}
-use Rattle.store_model.specs.Files.Found.{Outer}
 use Rattle.store_model.specs.Holding.{Held, HeldTicket, HeldClaim, held, held_after_act, ticket_with}
 use Rattle.store_model.specs.Desk.{View, Fillers, Does, Rests}
 use Rattle.store_model.proofs.Views.{of_lane-push, of_lane-others}

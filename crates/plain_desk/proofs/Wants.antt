@@ -1,5 +1,5 @@
 -- What the holder of a ticket is answered, as the desk has it.
-use Rattle.std.proofs.Common.{◌≡◌, ℕ, Bool, true, false, List, [], Option, Some, None, refl, sym, ap, ◌∙◌}
+use Rattle.std.proofs.Common.{◌≡◌, ℕ, Bool, true, false, Option, Some, None, refl, sym, ap, ◌∙◌}
 use Rattle.std.specs.Prelude.{IsSomeAnd, option_and_then}
 use Rattle.std.proofs.lemmas.Bool.{true≢false}
 use Rattle.pkg_names.specs.declared.root.Root.{Root}
@@ -9,7 +9,7 @@ use Rattle.store_model.specs.declared.ends.Cause.TheVariants as causes
 use Rattle.store_model.specs.declared.ends.WantEnd.{WantEnd}
 use Rattle.store_model.specs.declared.ends.WantEnd.TheVariants as wants
 use Rattle.store_model.specs.declared.replies.Ticket.{Ticket}
-use Rattle.store_model.specs.State.{State, Arrival, arrival_of, holds_claim}
+use Rattle.store_model.specs.State.{State, Arrival, arrival_of}
 use Rattle.store_model.specs.Packages.{known_fault}
 use Rattle.store_model.specs.Quiet.{IsQuiet}
 use Rattle.store_model.specs.History.{after, of_lane}

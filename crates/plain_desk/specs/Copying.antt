@@ -8,7 +8,7 @@ use Rattle.store_model.specs.declared.replies.CopyReply.{CopyReply}
 use Rattle.store_model.specs.declared.replies.CopyReply.TheVariants as copy
 use Rattle.store_model.specs.State.{State}
 use Rattle.store_model.specs.Files.{Found, found, found_len}
-use Rattle.store_model.specs.Files.Found.{NotOpen, NoSuchFile, Inner, Outer}
+use Rattle.store_model.specs.Files.Found.{Inner}
 use Rattle.store_model.specs.Acts.Copy.{copy_end}
 use Rattle.store_model.specs.Replies.{IsCopied}
 use Rattle.store_model.specs.Calls.{HasFileRoot}

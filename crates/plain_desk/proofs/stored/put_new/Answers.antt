@@ -1,6 +1,3 @@
-use Rattle.std.proofs.Common.{subst, sym}
-use Rattle.store_model.specs.State.{Stored}
-use Rattle.plain_stock.specs.Contents.{AreBytesOf}
 use Rattle.plain_desk.proofs.Blobs.{bytes_landed}
 use Rattle.plain_desk.proofs.stored.put_new.Goals as goal
 

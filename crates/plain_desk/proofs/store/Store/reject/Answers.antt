@@ -1,8 +1,6 @@
-use Rattle.std.proofs.Common.{refl, subst, sym}
+use Rattle.std.proofs.Common.{refl}
 use Rattle.store_model.specs.Replies.{IsRejected}
-use Rattle.store_model.specs.Calls.{Rejects}
 use Rattle.store_model.specs.declared.replies.RejectReply.TheVariants as reject
-use Rattle.plain_desk.specs.Stores.{view_of}
 use Rattle.plain_desk.proofs.Stores.{moved, notes_moves, stays_moves, either, does, rests}
 use Rattle.plain_desk.proofs.store.Store.reject.Goals as goal
 use Rattle.plain_desk.proofs.store.Store.reject.Goals.{in-Ok, in-Err}

@@ -6,8 +6,8 @@ use Rattle.store_model.specs.Calls.{HoldsTicket, HoldsNoClaim}
 use Rattle.store_model.specs.declared.ends.WantEnd.TheVariants as wants
 use Rattle.store_model.specs.declared.replies.WantReply.TheVariants as want
 use Rattle.plain_desk.specs.Stores.{StoreOf, len_of, view_of}
-use Rattle.plain_desk.proofs.Stores.{moved, notes_moves, stays_moves, either, does, rests, here, rests_still, unbroken_at, no_draft}
-use Rattle.plain_desk.proofs.Wants.{Has, IsFree, answers, want_due, quiet, may_go_on_still}
+use Rattle.plain_desk.proofs.Stores.{moved, notes_moves, stays_moves, either, does, rests, here, rests_still, unbroken_at}
+use Rattle.plain_desk.proofs.Wants.{answers, want_due, quiet, may_go_on_still}
 use Rattle.plain_desk.proofs.store.Store.want.Goals as goal
 use Rattle.plain_desk.proofs.store.Store.want.Goals.{in-Ok, in-Err, in-Ok-grant, in-Err-grant}
 
