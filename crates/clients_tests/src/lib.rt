@@ -1,10 +1,9 @@
 //! Tests of resolves and updates at stores in memory, over public calls, and what they share.
 #![tactic(auto)]
 
-pub mod shop;
-pub mod stores;
-
 #[cfg(test)]
 mod resolves;
+pub mod shop;
+pub mod stores;
 #[cfg(test)]
 mod updates;

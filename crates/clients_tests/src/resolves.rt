@@ -22,12 +22,21 @@ fn example(alloc: Global) -> Result<(Shop, Root), Fail> {
     let mut shop = Shop::new(alloc);
     let root = shop.package(
         b"example",
-        &[(b"data/a".as_slice(), b"hi".as_slice()), (b"data/b".as_slice(), b"b".as_slice())],
+        &[
+            (b"data/a".as_slice(), b"hi".as_slice()),
+            (b"data/b".as_slice(), b"b".as_slice()),
+        ],
     )?;
     Ok((shop, root))
 }
 
-fn resolve_on<W: Wait>(rt: &W, alloc: Global, store: &mut Store, repo: &mut MemRepo, url: &Url) -> ResolveReply
+fn resolve_on<W: Wait>(
+    rt: &W,
+    alloc: Global,
+    store: &mut Store,
+    repo: &mut MemRepo,
+    url: &Url,
+) -> ResolveReply
     requires no_file { url.now.file ≡ None }
     requires free { (held (of_lane 1 store.old.history)).claim ≡ None }
 {
@@ -74,7 +83,10 @@ fn a_package_is_fetched_and_opened(rt: HostRuntime) -> Result<(), Fail> {
 12 1 want 2 opened
 ";
     let roots = [package, root_of(b"hi"), root_of(b"b")];
-    assert_eq!(rt; text.as_slice(), with_roots(alloc, want, &roots)?.as_slice());
+    assert_eq!(rt;
+        text.as_slice(),
+        with_roots(alloc, want, &roots)?.as_slice()
+    );
     Ok(())
 }
 
@@ -88,10 +100,30 @@ fn ends(alloc: Global, text: &Bytes, end: &[u8], roots: &[Root]) -> Result<bool,
 fn bad_blobs(rt: HostRuntime) -> Result<(), Fail> {
     let alloc = rt.alloc();
     let cases: [(u64, &[u8], &[u64], &[u8]); 5] = [
-        (2, b"ho", &[], b"7 1 room $0 made 2\n8 1 land $0 ended wrong $1\n9 1 want 2 failed wrong $1\n"),
-        (3, b"hi", &[], b"7 1 room $0 made 3\n8 1 land $0 ended short 2\n9 1 want 2 failed short 2\n"),
-        (1, b"hi", &[], b"7 1 room $0 made 1\n8 1 put $0 ended long 1\n9 1 want 2 failed long 1\n"),
-        (2, b"hi", &[6], b"7 1 room $0 made 2\n8 1 miss $0 read\n9 1 want 2 failed read\n"),
+        (
+            2,
+            b"ho",
+            &[],
+            b"7 1 room $0 made 2\n8 1 land $0 ended wrong $1\n9 1 want 2 failed wrong $1\n",
+        ),
+        (
+            3,
+            b"hi",
+            &[],
+            b"7 1 room $0 made 3\n8 1 land $0 ended short 2\n9 1 want 2 failed short 2\n",
+        ),
+        (
+            1,
+            b"hi",
+            &[],
+            b"7 1 room $0 made 1\n8 1 put $0 ended long 1\n9 1 want 2 failed long 1\n",
+        ),
+        (
+            2,
+            b"hi",
+            &[6],
+            b"7 1 room $0 made 2\n8 1 miss $0 read\n9 1 want 2 failed read\n",
+        ),
         (
             33_554_433,
             b"hi",
@@ -128,9 +160,21 @@ fn refusals(rt: HostRuntime) -> Result<(), Fail> {
     let root = root_of(b"hi");
     let pinned = with_roots(alloc, b"fuchsia-pkg://a/b?hash=$0", &[root])?;
     let cases: [(&[u8], &[u64], &[u8]); 3] = [
-        (&pinned, &[], b"5 1 land $0 landed 2\n6 1 want 2 failed not-a-package\n"),
-        (b"fuchsia-pkg://a/none", &[], b"1 0 boot A\n2 1 begin none/0 not-found\n"),
-        (b"fuchsia-pkg://a/none", &[1], b"1 0 boot A\n2 1 begin none/0 listing-fault\n"),
+        (
+            &pinned,
+            &[],
+            b"5 1 land $0 landed 2\n6 1 want 2 failed not-a-package\n",
+        ),
+        (
+            b"fuchsia-pkg://a/none",
+            &[],
+            b"1 0 boot A\n2 1 begin none/0 not-found\n",
+        ),
+        (
+            b"fuchsia-pkg://a/none",
+            &[1],
+            b"1 0 boot A\n2 1 begin none/0 listing-fault\n",
+        ),
     ];
     for (url, failing, end) in cases.iter() {
         let (shop, _) = example(alloc)?;

@@ -26,21 +26,27 @@ struct Manifests<'a> {
 
 const EPOCH: &[u8] = b"{\"version\":\"1\",\"epoch\":2}";
 
-const PACKAGES: &[u8] = b"{\"version\":\"1\",\"content\":[\"fuchsia-pkg://a/system_image?hash=$0\"]}";
+const PACKAGES: &[u8] =
+    b"{\"version\":\"1\",\"content\":[\"fuchsia-pkg://a/system_image?hash=$0\"]}";
 
 // The sum of the zbi stands in place of `$2`, as a root.
-const IMAGES: &[u8] = b"{\"version\":\"1\",\"contents\":{\"partitions\":[{\"slot\":\"fuchsia\",\"type\":\"zbi\",\
+const IMAGES: &[u8] =
+    b"{\"version\":\"1\",\"contents\":{\"partitions\":[{\"slot\":\"fuchsia\",\"type\":\"zbi\",\
 \"size\":5,\"hash\":\"$2\",\"url\":\"fuchsia-pkg://a/images?hash=$1#zbi\"}]}}";
 
 // Another sum: the digits of the root of the images.
-const OTHER_SUM: &[u8] = b"{\"version\":\"1\",\"contents\":{\"partitions\":[{\"slot\":\"fuchsia\",\"type\":\"zbi\",\
+const OTHER_SUM: &[u8] =
+    b"{\"version\":\"1\",\"contents\":{\"partitions\":[{\"slot\":\"fuchsia\",\"type\":\"zbi\",\
 \"size\":5,\"hash\":\"$1\",\"url\":\"fuchsia-pkg://a/images?hash=$1#zbi\"}]}}";
 
 // The shop with a system of this list, its images, and the update package of these manifests. Its roots: the system,
 // the images, the sum of the zbi as a root, and the update package.
 fn shop_of(alloc: Global, list: &[u8], manifests: &Manifests) -> Result<(Shop, [Root; 4]), Fail> {
     let mut shop = Shop::new(alloc);
-    let system = shop.package(b"system_image", &[(b"data/static_packages".as_slice(), list)])?;
+    let system = shop.package(
+        b"system_image",
+        &[(b"data/static_packages".as_slice(), list)],
+    )?;
     let images = shop.package(b"images", &[(b"zbi".as_slice(), b"zbi-1".as_slice())])?;
     let sum = Root(sum_of(b"zbi-1").sha);
     let roots = [system, images, sum];
@@ -57,7 +63,13 @@ fn shop_of(alloc: Global, list: &[u8], manifests: &Manifests) -> Result<(Shop, [
     Ok((shop, [system, images, sum, update]))
 }
 
-fn update_on<W: Wait>(rt: &W, alloc: Global, store: &mut Store, repo: &mut MemRepo, url: &Url) -> UpdateReply
+fn update_on<W: Wait>(
+    rt: &W,
+    alloc: Global,
+    store: &mut Store,
+    repo: &mut MemRepo,
+    url: &Url,
+) -> UpdateReply
     requires no_file { url.now.file ≡ None }
     requires free { (held (of_lane 1 store.old.history)).claim ≡ None }
 {
@@ -101,7 +113,10 @@ fn good<'a>(list: &'a [u8], end: &'a [u8]) -> Case<'a> {
 fn ends_so<W: Wait>(rt: &W, alloc: Global, case: &Case) -> Result<bool, Fail> {
     let (shop, roots) = shop_of(alloc, case.list, &case.manifests)?;
     let text = history_of(rt, alloc, shop)?;
-    Ok(text.as_slice().ends_with(&with_roots(alloc, case.end, &roots)?))
+    Ok(
+        text.as_slice()
+            .ends_with(&with_roots(alloc, case.end, &roots)?),
+    )
 }
 
 // With the list of the running system: the package that is resolved is there. The images are fetched, copied without

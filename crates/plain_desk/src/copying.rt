@@ -15,11 +15,11 @@ ghost use Rattle.plain_desk.specs.Stores.{IsFileThere, kept_for, view_of};
 ghost use Rattle.plain_desk.specs.Filling.{IsCopiedAs};
 ghost use Rattle.plain_desk.specs.Copying.{CopiedBy, IsCopiedFile, IsCopiedFrom, next_part};
 
-use plain_drafts::Images;
 use crate::reading::{root_within, stored_bytes};
 use crate::store::Store;
 use image_layout::ImageKind;
 use pkg_names::{FilePath, Root};
+use plain_drafts::Images;
 use plain_ledger::Ledger;
 use plain_state::{FileAt, State};
 use plain_stock::Contents;

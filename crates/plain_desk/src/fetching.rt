@@ -17,12 +17,12 @@ ghost use Rattle.plain_ledger.specs.Ledgers.{Agrees, Notes, Stays};
 ghost use Rattle.plain_desk.specs.Stores.{Drafted, IsLandingEnd, IsLandedAs, HasLanded, draft_of, room_after, room_in, view_of, kept_for};
 
 use crate::asking::{copied, looked};
-use plain_drafts::Drafts;
 use crate::store::Store;
 use fetch_queue::FetchEnd;
 use package_book::META_LIMIT;
 use pkg_merkle::root_of;
 use pkg_names::{Bytes, Root};
+use plain_drafts::Drafts;
 use plain_ledger::Ledger;
 use plain_state::State;
 use plain_stock::Contents;

@@ -14,9 +14,9 @@ ghost use Rattle.plain_ledger.specs.Ledgers.{Stays, Tells};
 ghost use Rattle.plain_desk.specs.Stores.{view_of, kept_for};
 ghost use Rattle.plain_desk.specs.Filling.{IsUnstaged, IsStagedAs, IsActivatedAs, IsSealedOf, StagedBy, images_at_stage};
 
-use plain_drafts::Images;
 use crate::store::Store;
 use image_layout::Sys;
+use plain_drafts::Images;
 use plain_ledger::Ledger;
 use plain_stock::Contents;
 use std::alloc::AllocError;

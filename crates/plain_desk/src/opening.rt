@@ -5,13 +5,12 @@ ghost use Rattle.store_model.specs.History.{IsLegal};
 ghost use Rattle.plain_stock.specs.Contents.{AreBytesOf};
 ghost use Rattle.plain_desk.specs.Opening.{Opens};
 
-use plain_drafts::Drafts;
-use plain_drafts::Images;
 use crate::store::Store;
 use abr_record::Slot;
 use image_layout::Geometry;
 use pkg_names::Root;
 use plain_boot::{BootEnd, start};
+use plain_drafts::{Drafts, Images};
 use plain_ledger::Ledger;
 use plain_state::Standing;
 use plain_stock::Contents;

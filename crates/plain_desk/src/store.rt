@@ -5,8 +5,7 @@ ghost use Rattle.store_model.specs.Desk.{Keeps, Rests};
 ghost use Rattle.store_model.specs.Calls.{Closes, Rejects};
 ghost use Rattle.plain_desk.specs.Stores.{view_of, kept_for};
 
-use plain_drafts::Drafts;
-use plain_drafts::Images;
+use plain_drafts::{Drafts, Images};
 use plain_ledger::Ledger;
 use plain_stock::Contents;
 use std::alloc::Global;

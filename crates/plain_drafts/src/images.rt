@@ -67,12 +67,7 @@ impl Images {
     }
 
     /// A part of the file with this root comes behind the bytes of an image. Tells how many it has then.
-    pub fn append(
-        &mut self,
-        image: ImageKind,
-        root: Root,
-        part: &[u8],
-    ) -> Result<usize, AllocError>
+    pub fn append(&mut self, image: ImageKind, root: Root, part: &[u8]) -> Result<usize, AllocError>
         ensures ok { IfOk result (λ have. (have ≡ length (image_of self.new image))
             × IsAppended image root part.now self.old self.new) }
         ensures err { OnErr result (self.new ≡ self.old) }

@@ -22,15 +22,16 @@ returns-then-ne-2-clause-gives c =
     let root = c.args.root.now in
     let bytes = c.args.self.now.bytes in
     let same = not_false (root_eq c.args.self.now.root root) (sym c.ne.ensures ∙ c.if-ne.false) in
-    let lent : length c.as_slice-bytes.result.now ≡ length bytes = ap length c.as_slice-bytes.ensures.list in
-    (record {
-      len = length bytes;
-      stored = one_len c.args.self.now.root root (length bytes) same;
-      within = omega (arith, c.if-len-from.false, c.from.ensures, lent);
-    },
-    record {
-      bytes = bytes;
-      len = one_len c.args.self.now.root root (length bytes) same;
-      has_root = sym (c.root_of-got.ensures.root ∙ ap merkle_root c.as_slice-bytes.ensures.list);
-      other = λ e. not_true (root_eq c.root_of-got.result root) (sym c.ne-2.ensures ∙ c.if-ne-2.true) (subst (λ (r : Root). root_eq c.root_of-got.result r ≡ true) e (root_eq-refl c.root_of-got.result));
-    })
+    let lent : length c.as_slice-bytes.result.now ≡ length bytes = ap length c.as_slice-bytes.ensures.list in (
+      record {
+        len = length bytes;
+        stored = one_len c.args.self.now.root root (length bytes) same;
+        within = omega (arith, c.if-len-from.false, c.from.ensures, lent);
+      },
+      record {
+        bytes = bytes;
+        len = one_len c.args.self.now.root root (length bytes) same;
+        has_root = sym (c.root_of-got.ensures.root ∙ ap merkle_root c.as_slice-bytes.ensures.list);
+        other = λ e. not_true (root_eq c.root_of-got.result root) (sym c.ne-2.ensures ∙ c.if-ne-2.true) (subst (λ (r : Root). root_eq c.root_of-got.result r ≡ true) e (root_eq-refl c.root_of-got.result));
+      },
+    )
