@@ -20,13 +20,10 @@ use std::test::Fail;
 // A package of two files.
 fn example(alloc: Global) -> Result<(Shop, Root), Fail> {
     let mut shop = Shop::new(alloc);
-    let root = shop.package(
-        b"example",
-        &[
-            (b"data/a".as_slice(), b"hi".as_slice()),
-            (b"data/b".as_slice(), b"b".as_slice()),
-        ],
-    )?;
+    let mut lines = Vec::new(alloc);
+    shop.line(&mut lines, b"data/a", b"hi")?;
+    shop.line(&mut lines, b"data/b", b"b")?;
+    let root = shop.package(b"example", lines)?;
     Ok((shop, root))
 }
 

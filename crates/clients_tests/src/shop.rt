@@ -38,21 +38,33 @@ impl Shop {
         Ok(())
     }
 
-    /// A package of these files, each a path and its bytes, with the paths in order. It is listed under its name.
-    pub fn package(&mut self, name: &[u8], files: &[(&[u8], &[u8])]) -> Result<Root, Fail> {
-        let alloc = self.alloc;
-        let mut lines = Vec::new(alloc);
-        for (path, bytes) in files {
-            let root = self.file(bytes)?;
-            push_line(&mut lines, path, &root)?;
-        }
-        let meta = meta_of(alloc, name, lines)?;
+    /// A file of a package, and its line behind the others.
+    pub fn line(
+        &mut self,
+        lines: &mut Vec<u8>,
+        path: &[u8],
+        bytes: &[u8],
+    ) -> Result<(), AllocError> {
+        let root = self.file(bytes)?;
+        push_line(lines, path, &root)
+    }
+
+    /// A package with these lines, whose paths are in order. It is listed under its name.
+    pub fn package(&mut self, name: &[u8], lines: Vec<u8>) -> Result<Root, Fail> {
+        let meta = meta_of(self.alloc, name, lines)?;
         let root = self.file(&meta)?;
         self.listing.push(Pinned {
-            path: read_path(alloc, name)?,
+            path: read_path(self.alloc, name)?,
             root,
         })?;
         Ok(root)
+    }
+
+    /// A package of one file.
+    pub fn package_of(&mut self, name: &[u8], path: &[u8], bytes: &[u8]) -> Result<Root, Fail> {
+        let mut lines = Vec::new(self.alloc);
+        self.line(&mut lines, path, bytes)?;
+        self.package(name, lines)
     }
 
     /// The bytes of the files, in the order in which they came.

@@ -77,10 +77,7 @@ pub fn base_store(alloc: Global) -> Result<Store, Fail>
     ensures { IfOk result (λ store. held (of_lane 1 store.history) ≡ nothing_held) }
 {
     let mut base = Shop::new(alloc);
-    let root = base.package(
-        b"system_image",
-        &[(b"data/static_packages".as_slice(), b"".as_slice())],
-    )?;
+    let root = base.package_of(b"system_image", b"data/static_packages", b"")?;
     store_of(alloc, base.files(), root)
 }
 

@@ -16,14 +16,6 @@ use std::sync::Wait;
 use std::test::Fail;
 use system_updater::{UpdateReply, update};
 
-// What an update package says.
-#[derive(Clone, Copy)]
-struct Manifests<'a> {
-    epoch: &'a [u8],
-    packages: &'a [u8],
-    images: &'a [u8],
-}
-
 const EPOCH: &[u8] = b"{\"version\":\"1\",\"epoch\":2}";
 
 const PACKAGES: &[u8] =
@@ -39,28 +31,37 @@ const OTHER_SUM: &[u8] =
     b"{\"version\":\"1\",\"contents\":{\"partitions\":[{\"slot\":\"fuchsia\",\"type\":\"zbi\",\
 \"size\":5,\"hash\":\"$1\",\"url\":\"fuchsia-pkg://a/images?hash=$1#zbi\"}]}}";
 
-// The shop with a system of this list, its images, and the update package of these manifests. Its roots: the system,
-// the images, the sum of the zbi as a root, and the update package.
-fn shop_of(alloc: Global, list: &[u8], manifests: &Manifests) -> Result<(Shop, [Root; 4]), Fail> {
+// The list of the system, the manifests of the update package, and how the history of an update ends.
+#[derive(Clone, Copy)]
+struct Case<'a> {
+    list: &'a [u8],
+    epoch: &'a [u8],
+    packages: &'a [u8],
+    images: &'a [u8],
+    end: &'a [u8],
+}
+
+// The shop with a system, its images, and the update package. Its roots: the system, the images, the sum of the zbi as
+// a root, and the update package.
+fn shop_of(alloc: Global, case: &Case) -> Result<(Shop, [Root; 4]), Fail> {
     let mut shop = Shop::new(alloc);
-    let system = shop.package(
-        b"system_image",
-        &[(b"data/static_packages".as_slice(), list)],
+    let system = shop.package_of(b"system_image", b"data/static_packages", case.list)?;
+    let images = shop.package_of(b"images", b"zbi", b"zbi-1")?;
+    let roots = [system, images, Root(sum_of(b"zbi-1").sha)];
+    let mut lines = Vec::new(alloc);
+    shop.line(&mut lines, b"epoch.json", case.epoch)?;
+    shop.line(
+        &mut lines,
+        b"images.json",
+        &with_roots(alloc, case.images, &roots)?,
     )?;
-    let images = shop.package(b"images", &[(b"zbi".as_slice(), b"zbi-1".as_slice())])?;
-    let sum = Root(sum_of(b"zbi-1").sha);
-    let roots = [system, images, sum];
-    let about = with_roots(alloc, manifests.images, &roots)?;
-    let packages = with_roots(alloc, manifests.packages, &roots)?;
-    let update = shop.package(
-        b"update",
-        &[
-            (b"epoch.json".as_slice(), manifests.epoch),
-            (b"images.json".as_slice(), about.as_slice()),
-            (b"packages.json".as_slice(), packages.as_slice()),
-        ],
+    shop.line(
+        &mut lines,
+        b"packages.json",
+        &with_roots(alloc, case.packages, &roots)?,
     )?;
-    Ok((shop, [system, images, sum, update]))
+    let update = shop.package(b"update", lines)?;
+    Ok((shop, [system, images, roots[2], update]))
 }
 
 fn update_on<W: Wait>(
@@ -89,29 +90,51 @@ fn history_of<W: Wait>(rt: &W, alloc: Global, shop: Shop) -> Result<Bytes, Fail>
     Ok(text_of(alloc, &store.into_history())?)
 }
 
-// The list of the system, its manifests, and how the history of an update ends.
-#[derive(Clone, Copy)]
-struct Case<'a> {
-    list: &'a [u8],
-    manifests: Manifests<'a>,
-    end: &'a [u8],
-}
-
+// With good manifests.
 fn good<'a>(list: &'a [u8], end: &'a [u8]) -> Case<'a> {
     Case {
         list,
-        manifests: Manifests {
-            epoch: EPOCH,
-            packages: PACKAGES,
-            images: IMAGES,
-        },
+        epoch: EPOCH,
+        packages: PACKAGES,
+        images: IMAGES,
+        end,
+    }
+}
+
+// With the list of the running system, and one manifest in place of a good one.
+fn with_epoch<'a>(epoch: &'a [u8], end: &'a [u8]) -> Case<'a> {
+    Case {
+        list: b"",
+        epoch,
+        packages: PACKAGES,
+        images: IMAGES,
+        end,
+    }
+}
+
+fn with_packages<'a>(packages: &'a [u8], end: &'a [u8]) -> Case<'a> {
+    Case {
+        list: b"",
+        epoch: EPOCH,
+        packages,
+        images: IMAGES,
+        end,
+    }
+}
+
+fn with_images<'a>(images: &'a [u8], end: &'a [u8]) -> Case<'a> {
+    Case {
+        list: b"",
+        epoch: EPOCH,
+        packages: PACKAGES,
+        images,
         end,
     }
 }
 
 // So does the history of an update end.
 fn ends_so<W: Wait>(rt: &W, alloc: Global, case: &Case) -> Result<bool, Fail> {
-    let (shop, roots) = shop_of(alloc, case.list, &case.manifests)?;
+    let (shop, roots) = shop_of(alloc, case)?;
     let text = history_of(rt, alloc, shop)?;
     Ok(
         text.as_slice()
@@ -133,20 +156,27 @@ fn an_update_is_staged(rt: HostRuntime) -> Result<(), Fail> {
     Ok(())
 }
 
-// A manifest that is bad, in place of a good one.
+// A manifest that is bad, or of an older system.
 #[test]
 fn bad_manifests(rt: HostRuntime) -> Result<(), Fail> {
-    let mut epoch = good(b"", b"17 1 reject epoch.json\n18 1 close 15 closed\n");
-    epoch.manifests.epoch = b"x";
-    let mut packages = good(b"", b"18 1 reject packages.json\n19 1 close 15 closed\n");
-    packages.manifests.packages = b"{\"version\":\"2\",\"content\":[]}";
-    let mut images = good(b"", b"19 1 reject images.json\n20 1 close 15 closed\n");
-    images.manifests.images = b"{\"version\":1,\"contents\":{\"partitions\":[]}}";
-    let mut older = good(b"", b"19 1 stage 0 older 1\n20 1 close 15 closed\n");
-    older.manifests.epoch = b"{\"version\":\"1\",\"epoch\":0}";
-    for case in [epoch, packages, images, older] {
-        assert!(rt; ends_so(&rt, rt.alloc(), &case)?);
-    }
+    let alloc = rt.alloc();
+    let epoch = with_epoch(b"x", b"17 1 reject epoch.json\n18 1 close 15 closed\n");
+    assert!(rt; ends_so(&rt, alloc, &epoch)?);
+    let packages = with_packages(
+        b"{\"version\":\"2\",\"content\":[]}",
+        b"18 1 reject packages.json\n19 1 close 15 closed\n",
+    );
+    assert!(rt; ends_so(&rt, alloc, &packages)?);
+    let images = with_images(
+        b"{\"version\":1,\"contents\":{\"partitions\":[]}}",
+        b"19 1 reject images.json\n20 1 close 15 closed\n",
+    );
+    assert!(rt; ends_so(&rt, alloc, &images)?);
+    let older = with_epoch(
+        b"{\"version\":\"1\",\"epoch\":0}",
+        b"19 1 stage 0 older 1\n20 1 close 15 closed\n",
+    );
+    assert!(rt; ends_so(&rt, alloc, &older)?);
     Ok(())
 }
 
@@ -154,11 +184,12 @@ fn bad_manifests(rt: HostRuntime) -> Result<(), Fail> {
 // new, so their package and their list are fetched.
 #[test]
 fn bad_systems(rt: HostRuntime) -> Result<(), Fail> {
-    let mut differs = good(
-        b"",
+    let alloc = rt.alloc();
+    let differs = with_images(
+        OTHER_SUM,
         b"33 1 seal differs zbi 5 $2\n34 1 leave-stage\n35 1 close 15 closed\n",
     );
-    differs.manifests.images = OTHER_SUM;
+    assert!(rt; ends_so(&rt, alloc, &differs)?);
     let missing = good(
         b"base/0=1111111111111111111111111111111111111111111111111111111111111111\n",
         b"39 1 seal sealed
@@ -167,13 +198,12 @@ fn bad_systems(rt: HostRuntime) -> Result<(), Fail> {
 42 1 close 15 closed
 ",
     );
+    assert!(rt; ends_so(&rt, alloc, &missing)?);
     let none = good(
         b"x",
         b"40 1 activate not-a-system\n41 1 leave-stage\n42 1 close 15 closed\n",
     );
-    for case in [differs, missing, none] {
-        assert!(rt; ends_so(&rt, rt.alloc(), &case)?);
-    }
+    assert!(rt; ends_so(&rt, alloc, &none)?);
     Ok(())
 }
 
@@ -182,7 +212,7 @@ fn bad_systems(rt: HostRuntime) -> Result<(), Fail> {
 fn images_are_absent(rt: HostRuntime) -> Result<(), Fail> {
     let alloc = rt.alloc();
     let case = good(b"", b"");
-    let (shop, roots) = shop_of(alloc, case.list, &case.manifests)?;
+    let (shop, roots) = shop_of(alloc, &case)?;
     let text = history_of(&rt, alloc, shop.without(roots[1]))?;
     let end = b"24 1 begin images/0 ticket $1
 25 1 want 24 fetch $1

@@ -27,8 +27,10 @@ fn reads_a_folder(rt: HostRuntime) -> Result<(), Fail> {
     let failed = repo.fetch(alloc, &Root([0xcd; 32]));
     let opened = repo.fetch(alloc, &Root([0xab; 32]));
     let mut out = [0u8; 4];
-    let given = repo.next(&mut out);
-    let ended = repo.next(&mut out);
+    let (given, ended) = match opened {
+        FetchReply::Found { .. } => (repo.next(&mut out), repo.next(&mut out)),
+        _ => (NextReply::Failed, NextReply::Failed),
+    };
     fs::write(
         &rt,
         place.join(alloc, "listing")?,
