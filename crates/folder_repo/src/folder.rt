@@ -24,7 +24,7 @@ pub struct DirRepo<'a, F: Files> {
     files: &'a F,
     folder: String,
     listing: PinnedList,
-    open: Option<F::File>,
+    opened: Option<F::File>,
     fetches: u64,
     faults: u64,
 }
@@ -40,7 +40,7 @@ impl<'a, F: Files> DirRepo<'a, F> {
             files,
             folder: String::from_str(alloc, folder)?,
             listing,
-            open: None,
+            opened: None,
             fetches: 0,
             faults: 0,
         })
@@ -58,7 +58,7 @@ impl<F: Files> Repo for DirRepo<'_, F> {
 
     ghost faults = { λ r. r.faults };
 
-    ghost is_open = { λ r. is_some r.open };
+    ghost is_open = { λ r. is_some r.opened };
 
     ghost reading = { λ r. record { root = record { 0 = [] }; given = 0 } };
 
@@ -73,11 +73,11 @@ impl<F: Files> Repo for DirRepo<'_, F> {
         self.fetches = self.fetches.saturating_add(1);
         match open_blob(self.files, alloc, self.folder.as_str(), root) {
             Ok((file, len)) => {
-                self.open = Some(file);
+                self.opened = Some(file);
                 FetchReply::Found { len }
             }
             Err(reply) => {
-                self.open = None;
+                self.opened = None;
                 if reply == FetchReply::Failed {
                     self.faults = self.faults.saturating_add(1);
                 }
@@ -87,7 +87,7 @@ impl<F: Files> Repo for DirRepo<'_, F> {
     }
 
     fn next(&mut self, out: &mut [u8]) -> NextReply {
-        let Some(file) = &mut self.open else {
+        let Some(file) = &mut self.opened else {
             return NextReply::End;
         };
         match file.read(out) {
