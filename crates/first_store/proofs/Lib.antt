@@ -1,0 +1,7 @@
+pub mod Quick
+pub mod QuickRoot
+pub mod Literal
+pub mod Apart
+pub mod Read
+pub mod Judged
+pub mod Hands
