@@ -2,6 +2,7 @@
 use Rattle.std.proofs.Common.{◌≡◌, ℕ, Bool, true, false, not, cond, List, [], ◌∷◌, length, Option, Some, None, is_some, Result, Ok, refl, sym, ap, ◌∙◌}
 use Rattle.std.specs.Prelude.{find}
 use Rattle.pkg_names.specs.declared.root.Root.{Root}
+use Rattle.system_lists.specs.Entries.{listed}
 use Rattle.system_lists.specs.Judging.{AtHand, Verdict, static_name, cached_name, system_path, judged}
 use Rattle.system_lists.specs.Judging.Verdict.{Whole}
 
@@ -18,4 +19,5 @@ pub record HasAll (at : AtHand) (system list : Root) : Type 0 where
   pub read : at.bytes list ≡ Some []
 
 pub is_whole : (at : AtHand) (system list : Root) → HasAll at system list → judged at system ≡ Whole (record { path = system_path; root = system } ∷ []) []
-is_whole at system list h = rw (h.stored, h.kept, h.book, h.names, h.static_list, h.cached_list, h.short, h.read, h.stored) refl
+unfolding listed
+is_whole at system list h = rw (h.stored, h.kept, h.book, h.static_list, h.cached_list, h.names) (rw (h.stored, h.short) (rw h.read refl))

@@ -2,6 +2,7 @@
 use Rattle.std.proofs.Common.{◌≡◌, ℕ, List, [], ◌∷◌, ◌++◌, refl, ap, ◌∙◌}
 use Rattle.std.specs.Prelude.{codes}
 use Rattle.sha2.specs.Sha256.{digest_bytes, first_words, rounds}
+use Rattle.hex.specs.Hex.{encode_with}
 use Rattle.pkg_names.specs.declared.root.Root.{Root}
 use Rattle.pkg_merkle.specs.Merkle.{merkle_root, first_inputs, block_input, head}
 use Rattle.far_archive.specs.Written.{written}
@@ -9,6 +10,7 @@ use Rattle.meta_contents.specs.Contents.{Pair, text_of}
 use Rattle.package_book.specs.Book.{Files, contents_name, package_name}
 use Rattle.system_lists.specs.Judging.{static_name}
 use Rattle.first_store.specs.Start.{outer_files, inner_files, system_meta}
+use Rattle.first_store.proofs.Quick.{quick}
 use Rattle.first_store.proofs.QuickRoot.{quick_above, root_is}
 
 -- the root of no bytes
@@ -31,13 +33,14 @@ unfoldable pub bytes : List ℕ
 bytes = written files
 
 pub empty_is : merkle_root [] ≡ empty_root
-unfolding first_inputs block_input head digest_bytes first_words rounds
+unfolding quick quick_above first_inputs block_input head digest_bytes first_words rounds
 empty_is = root_is [] ∙ refl
 
 pub outer_is : outer_files ≡ outer
 outer_is = ap (λ (root : Root). (static_name, root) ∷ []) empty_is
 
 pub files_are : inner_files ≡ files
+unfolding encode_with
 files_are = ap (λ (list : List Pair). (contents_name, text_of list) ∷ (package_name, package_text) ∷ []) outer_is
 
 pub meta_is : system_meta ≡ bytes

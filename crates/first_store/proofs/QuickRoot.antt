@@ -10,7 +10,7 @@ use Rattle.first_store.proofs.Quick.{quick, quick_is}
 abbrev pub quick_hashes : ℕ → List ℕ → List ℕ
 quick_hashes level bytes = flat_map quick (level_inputs level bytes)
 
-abbrev pub quick_above : ℕ → ℕ → List ℕ → List ℕ
+unfoldable pub quick_above : ℕ → ℕ → List ℕ → List ℕ
 quick_above zero level bytes = quick_hashes level bytes
 quick_above (suc n) level bytes =
     if block_count bytes == 1 then quick_hashes level bytes else quick_above n (suc level) (quick_hashes level bytes)
@@ -20,7 +20,7 @@ flat_is [] = refl
 flat_is (input ∷ inputs) = ap (λ (d : List ℕ). d ++ flat_map sha256 inputs) (quick_is input) ∙ ap (λ (rest : List ℕ). quick input ++ rest) (flat_is inputs)
 
 above_is : (n level : ℕ) (bytes : List ℕ) → root_above n level bytes ≡ quick_above n level bytes
-unfolding root_above
+unfolding root_above quick_above
 above_is zero level bytes = flat_is (level_inputs level bytes)
 above_is (suc n) level bytes =
     ap (λ (h : List ℕ). cond (block_count bytes == 1) h (root_above n (suc level) h)) (flat_is (level_inputs level bytes))
@@ -29,3 +29,11 @@ above_is (suc n) level bytes =
 pub root_is : (bytes : List ℕ) → merkle_root bytes ≡ record { 0 = quick_above (length bytes) 0 bytes }
 unfolding merkle_root
 root_is bytes = ap (λ (d : List ℕ). record { 0 = d }) (above_is (length bytes) 0 bytes)
+
+-- above two blocks is one
+pub two_levels : (bytes : List ℕ) (n : ℕ) (hashes : List ℕ) → block_count bytes ≡ 2 → quick_hashes 0 bytes ≡ hashes → block_count hashes ≡ 1 → quick_above (suc (suc n)) 0 bytes ≡ quick_hashes 1 hashes
+unfolding quick_above
+two_levels bytes n hashes two below one =
+    ap (λ (k : ℕ). cond (k == 1) (quick_hashes 0 bytes) (quick_above (suc n) 1 (quick_hashes 0 bytes))) two
+    ∙ ap (λ (h : List ℕ). quick_above (suc n) 1 h) below
+    ∙ ap (λ (k : ℕ). cond (k == 1) (quick_hashes 1 hashes) (quick_above n 2 (quick_hashes 1 hashes))) one

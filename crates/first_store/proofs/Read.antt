@@ -1,6 +1,12 @@
 -- The meta blob is a book.
 use Rattle.std.proofs.Common.{◌≡◌, ℕ, List, [], ◌∷◌, length, false, Option, Some, None, Result, Ok, refl, sym, ap, ◌∙◌}
 use Rattle.std.specs.Prelude.{codes, nat_lt}
+use Rattle.std.specs.Str.{is_utf8, chars}
+use lib.Utf8.{encode}
+use Rattle.hex.specs.Hex.{decode_pairs}
+use Rattle.json.specs.Json.{value}
+use Rattle.json.specs.Lex.{lex, punctuate}
+use Rattle.json.specs.Text.{content}
 use Rattle.far_archive.specs.Fields as far
 use Rattle.far_archive.specs.Fields.{places, entry}
 use Rattle.far_archive.specs.Faults.{has_index, has_directory, has_name, has_range, entry_fault, entries_fault, index_fault, first_fault}
@@ -19,7 +25,7 @@ unfolding bytes written
 short = refl
 
 sound : first_fault bytes ≡ None
-unfolding bytes written places entry has_index has_directory has_name has_range entry_fault entries_fault index_fault first_fault
+unfolding bytes written places entry has_index has_directory has_name has_range entry_fault entries_fault index_fault first_fault is_utf8 chars encode
 sound = refl
 
 has : far.files bytes ≡ files
@@ -27,10 +33,11 @@ unfolding bytes written places entry
 has = refl
 
 lists : contents_of contents_text ≡ Ok outer
-unfolding last_cut reading contents_of
+unfolding last_cut reading contents_of is_utf8 chars encode decode_pairs
 lists = refl
 
 names : package_of package_text ≡ Ok (record { name = codes "system_image"; version = codes "0" })
+unfolding is_utf8 chars encode value lex punctuate content
 names = refl
 
 pub reads : book bytes ≡ Ok (record { meta = bytes; inner = files; outer = outer })
