@@ -6,3 +6,4 @@ pub mod Apart
 pub mod Read
 pub mod Judged
 pub mod Hands
+pub mod Opened
