@@ -4,6 +4,8 @@
 #[cfg(test)]
 mod resolves;
 pub mod shop;
+#[cfg(test)]
+mod start;
 pub mod stores;
 #[cfg(test)]
 mod updates;
