@@ -3,6 +3,8 @@
 
 #[cfg(test)]
 mod resolves;
+#[cfg(test)]
+mod scripts;
 pub mod shop;
 pub mod stores;
 #[cfg(test)]

@@ -1,0 +1,4 @@
+pub mod Asked
+pub mod Bindings
+pub mod Called
+pub mod Lanes

@@ -1,0 +1,4 @@
+pub mod Names
+pub mod Serving
+pub mod Steps
+pub mod Viewing
