@@ -1,10 +1,11 @@
 //! The laws of the script language, each the contract of a function that does nothing.
 
-ghost use Rattle.std.specs.Prelude.{◌≡◌, ◌↔◌, ℕ, List, Some, Ok, IsUtf8};
+ghost use Rattle.std.specs.Prelude.{◌≡◌, ◌↔◌, ℕ, List, Some, Ok, IsUtf8, All};
 ghost use Rattle.script_lang.specs.declared.request.Request.{Request as RequestOf};
 ghost use Rattle.script_lang.specs.declared.script.ScriptRefusal.{ScriptRefusal as RefusalOf};
 ghost use Rattle.script_lang.specs.Requests.{line_in};
 ghost use Rattle.script_lang.specs.Scripts.{IsScript, IsRefused};
+ghost use Rattle.script_lang.specs.Servable.{IsServable};
 ghost use Rattle.script_lang.specs.Spelling.{Asks};
 
 use crate::request::{RETAIN_LIMIT, SCRIPT_NAME_LIMIT};
@@ -35,4 +36,12 @@ pub fn lines_are_spelled()
         (line_in number line ≡ Ok (Some request)) ↔ (IsUtf8 line × (request.line ≡ number) × Asks line request) }
 {
     texts_spell_a_url_or_have_a_fault();
+}
+
+/// Each request of a script can be served by a desk.
+pub fn scripts_can_be_served()
+    ensures { (text : List ℕ) (requests : List RequestOf) → IsScript text requests
+        → All (λ (r : RequestOf). IsServable r.ask) requests }
+{
+    lines_are_spelled();
 }
