@@ -21,6 +21,8 @@ whole path pin to reply old new listing files before after asked asked_now f rep
     let h = f.goes in record {
       stays = h.stays;
       agrees = h.agrees;
+      more = h.more;
+      seen = h.seen;
       run = h.run;
       grows = h.mine;
       serves = record { point = to; leads = h.leads; replied = replied };

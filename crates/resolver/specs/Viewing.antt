@@ -5,6 +5,7 @@ use Rattle.pkg_names.specs.Streams.{RoseBy}
 use Rattle.pkg_names.specs.declared.pinned.Pinned.{Pinned}
 use Rattle.pkg_names.specs.declared.root.Root.{Root}
 use Rattle.repo_source.specs.declared.file.RepoFile.{RepoFile}
+use Rattle.store_model.specs.declared.events.Event.{Event}
 use Rattle.store_model.specs.History.{IsLegal, Numbered, of_lane}
 use Rattle.store_model.specs.Holding.{Held}
 use Rattle.store_model.specs.Desk.{View, Stays, held_by}
@@ -26,13 +27,16 @@ IsHeldAfter lane (replies.Resolved dir) old new =
     × (new ≡ record old { dirs = old.dirs ++ record { number = dir.number; lane = lane; root = root } ∷ [] })
 IsHeldAfter lane reply old new = new ≡ old
 
--- What the lane did is one run that resolves the package, and the reply is the run's. The repository was asked
--- once for each grant of the run, it failed as often as the run says, and the run fits what it tells.
+-- What the lane did is one run that resolves the package, and the reply is the run's. What it had seen is the front
+-- of what it has seen. The repository was asked once for each grant of the run, it failed as often as the run says,
+-- and the run fits what it tells.
 pub record Resolves (path : NameAndVariant) (pin : Option Root) (reply : ResolveReply) (old new : View)
     (listing : Option (List Pinned)) (files : Option (List RepoFile)) (faults faults_now fetches fetches_now : ℕ)
     : Type 0 where
   pub stays : Stays old new
   pub agrees : Agrees old → Agrees new
+  pub more : List Event
+  pub seen : new.seen ≡ old.seen ++ more
   pub run : List Numbered
   pub grows : new.mine ≡ old.mine ++ run
   pub serves : Serves path pin run reply

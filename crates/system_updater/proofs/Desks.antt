@@ -1,18 +1,13 @@
 -- What each call of an update at its desk comes to, by its reply.
-use Rattle.std.proofs.Common.{inl, inr, ◌≡◌, ℕ, ◌+◌, ◌++◌, true, false, List, [], ◌∷◌, length, Option, Some, None, refl, sym, ap, subst, ◌∙◌}
+use Rattle.std.proofs.Common.{inl, inr, ◌≡◌, ℕ, ◌+◌, ◌++◌, true, List, [], ◌∷◌, length, Option, Some, None, refl, sym, ap, subst, ◌∙◌}
 use Rattle.std.specs.Prelude.{◌↔◌}
 use Rattle.image_layout.specs.declared.ImageKind.{ImageKind}
 use Rattle.image_layout.specs.declared.Sys.{Sys}
-use Rattle.pkg_names.specs.declared.pinned.Pinned.{Pinned}
-use Rattle.pkg_names.specs.declared.root.Root.{Root}
 use Rattle.system_lists.specs.declared.fault.ManifestFile.{ManifestFile}
 use Rattle.system_lists.specs.declared.fault.ManifestFault.{ManifestFault}
 use Rattle.store_model.specs.declared.events.Event.{Event}
-use Rattle.store_model.specs.declared.events.Act.{Act}
 use Rattle.store_model.specs.declared.events.Act.TheVariants as acts
 use Rattle.store_model.specs.declared.events.CallName.TheVariants as calls
-use Rattle.store_model.specs.declared.ends.ReadEnd.TheVariants as reads
-use Rattle.store_model.specs.declared.ends.RetainEnd.TheVariants as retains
 use Rattle.store_model.specs.declared.ends.StageEnd.TheVariants as stages
 use Rattle.store_model.specs.declared.ends.CopyEnd.TheVariants as copies
 use Rattle.store_model.specs.declared.ends.ActivateEnd.TheVariants as activations
@@ -43,9 +38,6 @@ use Rattle.store_model.specs.Calls as call
 use Rattle.store_model.proofs.CallsHeld.{staged, sealed, activated, left_stage, closed as closed_dir}
 use Rattle.store_model.proofs.Calls.{held_by-Rests}
 use Rattle.store_model.proofs.CallsRest.{held_after_read, held_after_reject, held_after_retain, held_after_copy}
-use Rattle.resolver.specs.Counting.{is_grant, is_failure}
-use Rattle.resolver.specs.Fetched.{ListsInAct, TellsInAct}
-use Rattle.repo_source.specs.declared.file.RepoFile.{RepoFile}
 use Rattle.system_updater.specs.declared.reply.UpdateReply.{UpdateReply}
 use Rattle.system_updater.specs.declared.reply.UpdateReply.TheVariants as replies
 use Rattle.system_updater.specs.declared.plan.Plan.{Plan}
@@ -56,18 +48,9 @@ use Rattle.system_updater.specs.Holding.{IsOpen, IsHeldAt, HoldsAt}
 use Rattle.system_updater.specs.Holding as holding
 use Rattle.system_updater.specs.Viewing.{Told}
 use Rattle.system_updater.specs.Steps.{Goes, IsRefusal}
-use Rattle.system_updater.proofs.Goes.{IsPlain, does_event, does_rest, goes_leg}
+use Rattle.system_updater.proofs.Goes.{IsPlainEvent, plain_by, read_plain, retain_plain, does_event, does_rest, goes_leg}
 use Rattle.system_updater.proofs.Closes.{none_staged, unstaged, closed_less, never_bad, never_short}
 use Rattle.system_updater.proofs.Places.{open_closed, staged_left, restaged, same_held, judged_open}
-
--- the event of a call says nothing of a repository
-pub record IsPlainEvent (e : Event) : Type 0 where
-  pub act : Act
-  pub is : e.act ≡ act
-  pub plain : IsPlain act
-
-plain_by : (act : Act) (e : Event) → e.act ≡ act → is_grant act ≡ false → is_failure act ≡ false → ((all : List Pinned) → ListsInAct all act) → ((all : List RepoFile) → TellsInAct all act) → IsPlainEvent e
-plain_by act e is grant failure lists tells = record { act = act; is = is; plain = record { grant = grant; failure = failure; lists = lists; tells = tells } }
 
 module _ (old new : View) (repo : Told) (F G : Type 0) where
   -- one event
@@ -91,16 +74,6 @@ module _ (old new : View) (repo : Told) (F G : Type 0) where
       (λ base is. same_held old.lane a b base (held_by old) (held_by new) held (places base) is)
 
 -- ---- a manifest is read
-
-read_plain : (dir : ℕ) (file : List ℕ) (reply : ReadReply) (number : ℕ) (e : Event) → IsRead dir file reply number e → IsPlainEvent e
-read_plain dir file (read.Got bytes) number e is = plain_by (acts.Read dir file (reads.Got bytes)) e is.0 refl refl (λ all. tt) (λ all. tt)
-read_plain dir file read.BadDir number e is = plain_by (acts.Read dir file reads.BadDir) e is.0 refl refl (λ all. tt) (λ all. tt)
-read_plain dir file read.NoFile number e is = plain_by (acts.Read dir file reads.NoFile) e is.0 refl refl (λ all. tt) (λ all. tt)
-read_plain dir file (read.TooLong len) number e is = plain_by (acts.Read dir file (reads.TooLong len)) e is.0 refl refl (λ all. tt) (λ all. tt)
-read_plain dir file read.DiskRead number e is = plain_by (acts.Read dir file reads.DiskRead) e is.0 refl refl (λ all. tt) (λ all. tt)
-read_plain dir file (read.Rotten root got) number e is = plain_by (acts.Read dir file (reads.Rotten root got)) e is.0 refl refl (λ all. tt) (λ all. tt)
-read_plain dir file (read.Broken broken) number e is = plain_by (acts.Refused (calls.Read dir file) broken) e is.0 refl refl (λ all. tt) (λ all. tt)
-read_plain dir file read.NoMemory number e is = absurd is
 
 read_open : (lane : ℕ) (dir : Dir) (prior : Prior) (reply : ReadReply) (base now : Held) → IsOpen lane dir base now → IsHeldAt lane (after_read dir prior reply) base now
 read_open lane dir prior (read.Got bytes) base now is = judged_open lane dir prior (Some bytes) base now is
@@ -194,14 +167,6 @@ module _ (dir : Dir) (plan : Plan) (old new : View) (repo : Told) (F G : Type 0)
       rest_goes old new repo F G (Staging dir plan) (closed dir replies.NoMemory) is (inr (refl, refl)) firm (λ base is. open_closed old.lane dir replies.NoMemory base (held_by old) is)
 
 -- ---- packages are retained
-
-retain_plain : (roots : List Root) (count : ℕ) (reply : RetainReply) (number : ℕ) (e : Event) → IsRetained roots count reply number e → IsPlainEvent e
-retain_plain roots count retain.Done number e is = plain_by (acts.Retain roots retains.Done is.0) e is.1.0 refl refl (λ all. tt) (λ all. tt)
-retain_plain roots count retain.SlotInUse number e is = plain_by (acts.Retain roots retains.SlotInUse is.0) e is.1.0 refl refl (λ all. tt) (λ all. tt)
-retain_plain roots count retain.DiskRead number e is = plain_by (acts.Retain roots retains.DiskRead is.0) e is.1.0 refl refl (λ all. tt) (λ all. tt)
-retain_plain roots count (retain.Rotten root got) number e is = plain_by (acts.Retain roots (retains.Rotten root got) is.0) e is.1.0 refl refl (λ all. tt) (λ all. tt)
-retain_plain roots count (retain.Broken broken) number e is = plain_by (acts.Refused (calls.Retain count) broken) e is.0 refl refl (λ all. tt) (λ all. tt)
-retain_plain roots count retain.NoMemory number e is = absurd is
 
 retain_staged : (lane : ℕ) (dir : Dir) (plan : Plan) (reply : RetainReply) (base now : Held) → holding.IsStaged lane dir Fills base now → IsHeldAt lane (after_retain dir plan reply) base now
 retain_staged lane dir plan retain.Done base now is = is

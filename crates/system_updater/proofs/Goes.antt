@@ -11,6 +11,15 @@ use Rattle.pkg_names.specs.declared.root.Root.{Root}
 use Rattle.repo_source.specs.declared.file.RepoFile.{RepoFile}
 use Rattle.store_model.specs.declared.events.Event.{Event}
 use Rattle.store_model.specs.declared.events.Act.{Act}
+use Rattle.store_model.specs.declared.events.Act.TheVariants as acts
+use Rattle.store_model.specs.declared.events.CallName.TheVariants as calls
+use Rattle.store_model.specs.declared.ends.ReadEnd.TheVariants as reads
+use Rattle.store_model.specs.declared.ends.RetainEnd.TheVariants as retains
+use Rattle.store_model.specs.declared.replies.ReadReply.{ReadReply}
+use Rattle.store_model.specs.declared.replies.ReadReply.TheVariants as read
+use Rattle.store_model.specs.declared.replies.RetainReply.{RetainReply}
+use Rattle.store_model.specs.declared.replies.RetainReply.TheVariants as retain
+use Rattle.store_model.specs.Replies.{IsRead, IsRetained}
 use Rattle.store_model.specs.History.{Numbered}
 use Rattle.store_model.specs.Holding.{Held}
 use Rattle.store_model.specs.Desk as desk
@@ -24,8 +33,9 @@ use Rattle.resolver.proofs.Goes.{rose_then, rose_same}
 use Rattle.resolver.proofs.Handles.{iff_then}
 use Rattle.system_updater.specs.Serving.{Point, Follows, Leads, joined}
 use Rattle.system_updater.specs.Holding.{IsHeldAt}
-use Rattle.system_updater.specs.Viewing.{Told, told}
-use Rattle.system_updater.specs.Steps.{Does, Goes}
+use Rattle.system_updater.specs.declared.reply.UpdateReply.{UpdateReply}
+use Rattle.system_updater.specs.Viewing.{Told, told, Does, Updates}
+use Rattle.system_updater.specs.Steps.{Goes}
 
 -- ---- what the lane did
 
@@ -50,6 +60,8 @@ pub does_none : (v : View) (repo : Told) (F : Type 0) → Does [] v v repo repo 
 does_none v repo F = record {
   stays = record { lane = refl; tie = refl; origin = refl };
   agrees = λ agree. agree;
+  more = [];
+  seen = sym (append-nil v.seen);
   mine = sym (append-nil v.mine);
   claim = refl;
   asked = refl;
@@ -65,6 +77,8 @@ pub does_then : (xs ys : List Numbered) (v w u : View) (r s t : Told) (F G H : T
 does_then xs ys v w u r s t F G H h k = record {
   stays = stays_then v w u h.stays k.stays;
   agrees = λ agree. k.agrees (h.agrees agree);
+  more = h.more ++ k.more;
+  seen = k.seen ∙ ap (λ (es : List Event). es ++ k.more) h.seen ∙ append_assoc v.seen h.more k.more;
   mine = k.mine ∙ ap (λ (es : List Numbered). es ++ ys) h.mine ∙ append_assoc v.mine xs ys;
   claim = k.claim ∙ h.claim;
   asked = k.asked ∙ ap (counted (grants ys)) h.asked ∙ counted_then (grants xs) (grants ys) r.fetches ∙ ap (λ (i : ℕ). counted i r.fetches) (sym (grants_then xs ys));
@@ -83,6 +97,35 @@ pub record IsPlain (act : Act) : Type 0 where
   pub lists : (all : List Pinned) → ListsInAct all act
   pub tells : (all : List RepoFile) → TellsInAct all act
 
+-- the event of a call says nothing of a repository
+pub record IsPlainEvent (e : Event) : Type 0 where
+  pub act : Act
+  pub is : e.act ≡ act
+  pub plain : IsPlain act
+
+pub plain_by : (act : Act) (e : Event) → e.act ≡ act → is_grant act ≡ false → is_failure act ≡ false → ((all : List Pinned) → ListsInAct all act) → ((all : List RepoFile) → TellsInAct all act) → IsPlainEvent e
+plain_by act e is grant failure lists tells = record { act = act; is = is; plain = record { grant = grant; failure = failure; lists = lists; tells = tells } }
+
+-- the read of a file
+pub read_plain : (dir : ℕ) (file : List ℕ) (reply : ReadReply) (number : ℕ) (e : Event) → IsRead dir file reply number e → IsPlainEvent e
+read_plain dir file (read.Got bytes) number e is = plain_by (acts.Read dir file (reads.Got bytes)) e is.0 refl refl (λ all. tt) (λ all. tt)
+read_plain dir file read.BadDir number e is = plain_by (acts.Read dir file reads.BadDir) e is.0 refl refl (λ all. tt) (λ all. tt)
+read_plain dir file read.NoFile number e is = plain_by (acts.Read dir file reads.NoFile) e is.0 refl refl (λ all. tt) (λ all. tt)
+read_plain dir file (read.TooLong len) number e is = plain_by (acts.Read dir file (reads.TooLong len)) e is.0 refl refl (λ all. tt) (λ all. tt)
+read_plain dir file read.DiskRead number e is = plain_by (acts.Read dir file reads.DiskRead) e is.0 refl refl (λ all. tt) (λ all. tt)
+read_plain dir file (read.Rotten root got) number e is = plain_by (acts.Read dir file (reads.Rotten root got)) e is.0 refl refl (λ all. tt) (λ all. tt)
+read_plain dir file (read.Broken broken) number e is = plain_by (acts.Refused (calls.Read dir file) broken) e is.0 refl refl (λ all. tt) (λ all. tt)
+read_plain dir file read.NoMemory number e is = absurd is
+
+-- a retaining
+pub retain_plain : (roots : List Root) (count : ℕ) (reply : RetainReply) (number : ℕ) (e : Event) → IsRetained roots count reply number e → IsPlainEvent e
+retain_plain roots count retain.Done number e is = plain_by (acts.Retain roots retains.Done is.0) e is.1.0 refl refl (λ all. tt) (λ all. tt)
+retain_plain roots count retain.SlotInUse number e is = plain_by (acts.Retain roots retains.SlotInUse is.0) e is.1.0 refl refl (λ all. tt) (λ all. tt)
+retain_plain roots count retain.DiskRead number e is = plain_by (acts.Retain roots retains.DiskRead is.0) e is.1.0 refl refl (λ all. tt) (λ all. tt)
+retain_plain roots count (retain.Rotten root got) number e is = plain_by (acts.Retain roots (retains.Rotten root got) is.0) e is.1.0 refl refl (λ all. tt) (λ all. tt)
+retain_plain roots count (retain.Broken broken) number e is = plain_by (acts.Refused (calls.Retain count) broken) e is.0 refl refl (λ all. tt) (λ all. tt)
+retain_plain roots count retain.NoMemory number e is = absurd is
+
 unless : (broke : Bool) (all : List RepoFile) (act : Act) → TellsInAct all act → TellsUnless broke all act
 unless true all act is = tt
 unless false all act is = is
@@ -95,6 +138,8 @@ module _ (old new : View) (repo : Told) (F G : Type 0) where
       let e : Numbered = record { number = length (old.seen ++ does.others) + 1; event = does.event } in record {
         stays = does.stays;
         agrees = λ agree. record { own = does.own; legal = does.legal };
+        more = does.others ++ does.event ∷ [];
+        seen = does.seen ∙ append_assoc old.seen does.others (does.event ∷ []);
         mine = does.mine;
         claim = claim;
         asked = sym (ap (λ (a : Act). counted (0 + cond (is_grant a) 1 0) repo.fetches) is ∙ ap (λ (b : Bool). counted (0 + cond b 1 0) repo.fetches) plain.grant);
@@ -111,6 +156,8 @@ module _ (old new : View) (repo : Told) (F G : Type 0) where
   does_rest rests claim firm = record {
     stays = rests.stays;
     agrees = λ agree. record { own = rests.own; legal = rests.legal };
+    more = rests.others;
+    seen = rests.seen;
     mine = rests.mine ∙ sym (append-nil old.mine);
     claim = claim;
     asked = refl;
@@ -140,6 +187,8 @@ pub does_resolve : (path : NameAndVariant) (pin : Option Root) (reply : ResolveR
 does_resolve path pin reply old new listing listing_now files files_now x y p q F G is same_listing same_files firm = record {
   stays = is.stays;
   agrees = is.agrees;
+  more = is.more;
+  seen = is.seen;
   mine = is.grows;
   claim = claim_after old.lane reply (held_by old) (held_by new) is.held;
   asked = is.asked;
@@ -151,13 +200,32 @@ does_resolve path pin reply old new listing listing_now files files_now x y p q 
   firm = firm;
 }
 
+-- a whole update
+pub does_update : (path : NameAndVariant) (pin : Option Root) (reply : UpdateReply) (old new : View) (repo repo_now : Told) (F G : Type 0)
+    → (is : Updates path pin reply old new repo repo_now) → F ↔ G → Does is.run old new repo repo_now F G
+does_update path pin reply old new repo repo_now F G is firm = record {
+  stays = is.stays;
+  agrees = is.agrees;
+  more = is.more;
+  seen = is.seen;
+  mine = is.grows;
+  claim = ap (λ (h : Held). h.claim) is.held;
+  asked = is.asked;
+  failed = is.failed;
+  lists = is.lists;
+  tells = is.tells;
+  listing = is.listing;
+  files = is.files;
+  firm = firm;
+}
+
 -- ---- one step after another
 
-joined_then : (xs ys : List (List Numbered)) → joined (xs ++ ys) ≡ joined xs ++ joined ys
+pub joined_then : (xs ys : List (List Numbered)) → joined (xs ++ ys) ≡ joined xs ++ joined ys
 joined_then [] ys = refl
 joined_then (x ∷ xs) ys = ap (λ (es : List Numbered). x ++ es) (joined_then xs ys) ∙ sym (append_assoc x (joined xs) (joined ys))
 
-leads_then : (a b c : Point) (xs ys : List (List Numbered)) → Leads a xs b → Leads b ys c → Leads a (xs ++ ys) c
+pub leads_then : (a b c : Point) (xs ys : List (List Numbered)) → Leads a xs b → Leads b ys c → Leads a (xs ++ ys) c
 leads_then a b c [] ys h k = subst (λ (p : Point). Leads p ys c) (sym h) k
 leads_then a b c (x ∷ xs) ys h k = (h.0, h.1, leads_then h.0 b c xs ys h.2 k)
 

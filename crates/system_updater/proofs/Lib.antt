@@ -6,4 +6,5 @@ pub mod Wholes
 pub mod Judging
 pub mod Marks
 pub mod Staged
+pub mod Named
 pub mod Causes

@@ -159,6 +159,8 @@ pub whole : (path : NameAndVariant) (pin : Option Root) (reply : UpdateReply) (o
 whole path pin reply old new r s F G h = record {
   stays = h.does.stays;
   agrees = h.does.agrees;
+  more = h.does.more;
+  seen = h.does.seen;
   run = joined h.legs;
   grows = h.does.mine;
   serves = record { legs = h.legs; whole = refl; leads = h.leads };

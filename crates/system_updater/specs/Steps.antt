@@ -1,8 +1,6 @@
 -- What the steps of an update come to. These definitions serve its proof; no public clause cites them.
-use Rattle.std.specs.Prelude.{◌≡◌, ◌↔◌, List, ◌++◌, Some, Result, Ok, Err, All}
-use Rattle.pkg_names.specs.Streams.{RoseBy}
+use Rattle.std.specs.Prelude.{◌≡◌, List, Result, Ok, Err}
 use Rattle.pkg_names.specs.declared.pinned.Pinned.{Pinned}
-use Rattle.repo_source.specs.declared.file.RepoFile.{RepoFile}
 use Rattle.system_lists.specs.declared.fault.ManifestFile.{ManifestFile}
 use Rattle.system_lists.specs.declared.fault.ManifestFault.{ManifestFault}
 use Rattle.system_lists.specs.declared.fault.ManifestFault.TheVariants as faults
@@ -11,10 +9,7 @@ use Rattle.store_model.specs.declared.replies.CopyReply.{CopyReply}
 use Rattle.store_model.specs.declared.replies.CopyReply.TheVariants as copy
 use Rattle.store_model.specs.History.{Numbered}
 use Rattle.store_model.specs.Holding.{Held}
-use Rattle.store_model.specs.Desk.{View, Stays, held_by}
-use Rattle.resolver.specs.Counting.{grants, failures, counted}
-use Rattle.resolver.specs.Fetched.{Lists, Tells}
-use Rattle.resolver.specs.Viewing.{Agrees}
+use Rattle.store_model.specs.Desk.{View, held_by}
 use Rattle.system_updater.specs.declared.manifests.Refusal.{Refusal}
 use Rattle.system_updater.specs.declared.manifests.Refusal.TheVariants as refusals
 use Rattle.system_updater.specs.declared.plan.Plan.{Plan}
@@ -26,21 +21,7 @@ use Rattle.system_updater.specs.declared.reply.UpdateReply.TheVariants as replie
 use Rattle.system_updater.specs.Serving.{Point, closed, left, image_left, Leads, joined}
 use Rattle.system_updater.specs.Serving.Point.{Rejecting, Staging, Retaining, Fetching, Filling, Closing}
 use Rattle.system_updater.specs.Holding.{IsHeldAt, HoldsAt}
-use Rattle.system_updater.specs.Viewing.{Told}
-
--- what the lane did, and what the repository did in it
-pub record Does (run : List Numbered) (old new : View) (repo repo_now : Told) (Before After : Type 0) : Type 0 where
-  pub stays : Stays old new
-  pub agrees : Agrees old → Agrees new
-  pub mine : new.mine ≡ old.mine ++ run
-  pub claim : (held_by new).claim ≡ (held_by old).claim
-  pub asked : repo_now.fetches ≡ counted (grants run) repo.fetches
-  pub failed : RoseBy (failures run) repo.faults repo_now.faults
-  pub lists : (all : List Pinned) → repo.listing ≡ Some all → All (Lists all) run
-  pub tells : (all : List RepoFile) → repo.files ≡ Some all → All (Tells all) run
-  pub listing : repo_now.listing ≡ repo.listing
-  pub files : repo_now.files ≡ repo.files
-  pub firm : Before ↔ After
+use Rattle.system_updater.specs.Viewing.{Told, Does}
 
 -- The lane's events led from one point to the other, and it holds what is held there.
 pub record Goes (from to : Point) (old new : View) (repo repo_now : Told) (Before After : Type 0) : Type 0 where
