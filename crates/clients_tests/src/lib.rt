@@ -1,4 +1,4 @@
-//! Tests of resolves and updates at stores in memory, over public calls, and what they share.
+//! Tests of resolves, updates and lanes at stores in memory, over public calls, and what they share.
 #![tactic(auto)]
 
 #[cfg(test)]

@@ -4,8 +4,10 @@ ghost use Rattle.std.specs.Prelude.{◌≡◌, None, All};
 ghost use Rattle.script_lang.specs.declared.request.Request.{Request as RequestOf};
 ghost use Rattle.store_model.specs.Holding.{held};
 ghost use Rattle.store_model.specs.History.{of_lane};
-ghost use Rattle.lane_server.specs.Serving.{IsServable, asks_of};
+ghost use Rattle.script_lang.specs.Servable.{IsServable};
+ghost use Rattle.lane_server.specs.Serving.{asks_of};
 
+use crate::resolves::{ends, example};
 use crate::shop::{Shop, with_roots};
 use crate::stores::base_store;
 use crate::updates::shop_of_update;
@@ -48,19 +50,6 @@ fn history_of<W: Wait>(rt: &W, alloc: Global, shop: Shop, script: &[u8]) -> Resu
     Ok(text_of(alloc, &store.into_history())?)
 }
 
-// A package of two files.
-fn example(alloc: Global) -> Result<(Shop, Root), Fail> {
-    let mut shop = Shop::new(alloc);
-    let root = shop.package(
-        b"example",
-        &[
-            (b"data/a".as_slice(), b"hi".as_slice()),
-            (b"data/b".as_slice(), b"b".as_slice()),
-        ],
-    )?;
-    Ok((shop, root))
-}
-
 #[test]
 fn files_are_read_and_checked(rt: HostRuntime) -> Result<(), Fail> {
     let alloc = rt.alloc();
@@ -99,16 +88,11 @@ fn files_are_read_and_checked(rt: HostRuntime) -> Result<(), Fail> {
     Ok(())
 }
 
-// The text ends so.
-fn ends(alloc: Global, text: &Bytes, end: &[u8], roots: &[Root]) -> Result<bool, Fail> {
-    Ok(text.as_slice().ends_with(&with_roots(alloc, end, roots)?))
-}
-
 // Two packages under one path, of which the script pins each.
 fn old_and_new(alloc: Global) -> Result<(Shop, [Root; 4]), Fail> {
     let mut shop = Shop::new(alloc);
-    let old = shop.package(b"p", &[(b"f".as_slice(), b"one".as_slice())])?;
-    let new = shop.package(b"p", &[(b"f".as_slice(), b"two".as_slice())])?;
+    let old = shop.package_of(b"p", b"f", b"one")?;
+    let new = shop.package_of(b"p", b"f", b"two")?;
     Ok((shop, [old, root_of(b"one"), new, root_of(b"two")]))
 }
 
@@ -273,10 +257,7 @@ fn names(rt: HostRuntime) -> Result<(), Fail> {
 14 2 read 0 data/a bad-dir
 ";
     let mut base = Shop::new(alloc);
-    let system = base.package(
-        b"system_image",
-        &[(b"data/static_packages".as_slice(), b"".as_slice())],
-    )?;
+    let system = base.package_of(b"system_image", b"data/static_packages", b"")?;
     let text = history_of(&rt, alloc, shop, script)?;
     assert_eq!(rt;
         text.as_slice(),

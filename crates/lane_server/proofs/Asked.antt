@@ -19,7 +19,7 @@ use Rattle.resolver.specs.Viewing.{IsHeldAfter, Resolves}
 use Rattle.system_updater.specs.declared.reply.UpdateReply.{UpdateReply}
 use Rattle.system_updater.specs.declared.reply.UpdateReply.TheVariants as updates
 use Rattle.system_updater.specs.Viewing.{Told, told, Updates}
-use Rattle.system_updater.proofs.Goes.{does_resolve}
+use Rattle.system_updater.proofs.Goes.{does_resolve, does_update}
 use Rattle.lane_server.specs.declared.names.Binding.{Binding}
 use Rattle.lane_server.specs.Serving.{Serves, IsCut, after_resolve}
 use Rattle.lane_server.specs.Viewing.{Does}
@@ -65,19 +65,7 @@ module _ (url : Url) (old new : View) (r s : Told) (F G : Type 0) where
   update_does P reply is its firm = record {
     run = is.run;
     its = its;
-    does = record {
-      stays = is.stays;
-      agrees = is.agrees;
-      mine = is.grows;
-      claim = ap (λ (h : Held). h.claim) is.held;
-      asked = is.asked;
-      failed = is.failed;
-      lists = is.lists;
-      tells = is.tells;
-      listing = is.listing;
-      files = is.files;
-      firm = firm;
-    };
+    does = does_update url.path url.pin reply old new r s F G is firm;
     tickets = ap (λ (h : Held). h.tickets) is.held;
     stage = ap (λ (h : Held). h.stage) is.held;
   }

@@ -43,15 +43,11 @@ use Rattle.resolver.specs.Counting.{is_grant, is_failure}
 use Rattle.resolver.specs.Fetched.{ListsInAct, TellsInAct}
 use Rattle.system_updater.specs.Serving.{IsOne}
 use Rattle.system_updater.specs.Viewing.{Told}
-use Rattle.system_updater.proofs.Goes.{IsPlain, does_event, does_rest, does_none}
-use Rattle.system_updater.proofs.Desks.{IsPlainEvent}
+use Rattle.system_updater.proofs.Goes.{IsPlainEvent, plain_by, read_plain, retain_plain, does_event, does_rest, does_none}
 use Rattle.lane_server.specs.declared.names.Binding.{Binding}
 use Rattle.lane_server.specs.Names.{number_under, unbound}
 use Rattle.lane_server.specs.Serving.{Serves, IsCut, after_open}
 use Rattle.lane_server.specs.Viewing.{Does}
-
-plain_by : (act : Act) (e : Event) → e.act ≡ act → is_grant act ≡ false → is_failure act ≡ false → ((all : List Pinned) → ListsInAct all act) → ((all : List RepoFile) → TellsInAct all act) → IsPlainEvent e
-plain_by act e is grant failure lists tells = record { act = act; is = is; plain = record { grant = grant; failure = failure; lists = lists; tells = tells } }
 
 -- ---- one event, or none
 
@@ -123,16 +119,6 @@ module _ (names later : List Binding) (name : List ℕ) (path : NameAndVariant) 
   open_served opening.NoMemory isnt after is firm = absurd (isnt refl)
 
 -- ---- a file is read
-
-read_plain : (dir : ℕ) (file : List ℕ) (reply : ReadReply) (number : ℕ) (e : Event) → IsRead dir file reply number e → IsPlainEvent e
-read_plain dir file (read.Got bytes) number e is = plain_by (acts.Read dir file (reads.Got bytes)) e is.0 refl refl (λ all. tt) (λ all. tt)
-read_plain dir file read.BadDir number e is = plain_by (acts.Read dir file reads.BadDir) e is.0 refl refl (λ all. tt) (λ all. tt)
-read_plain dir file read.NoFile number e is = plain_by (acts.Read dir file reads.NoFile) e is.0 refl refl (λ all. tt) (λ all. tt)
-read_plain dir file (read.TooLong len) number e is = plain_by (acts.Read dir file (reads.TooLong len)) e is.0 refl refl (λ all. tt) (λ all. tt)
-read_plain dir file read.DiskRead number e is = plain_by (acts.Read dir file reads.DiskRead) e is.0 refl refl (λ all. tt) (λ all. tt)
-read_plain dir file (read.Rotten root got) number e is = plain_by (acts.Read dir file (reads.Rotten root got)) e is.0 refl refl (λ all. tt) (λ all. tt)
-read_plain dir file (read.Broken broken) number e is = plain_by (acts.Refused (calls.Read dir file) broken) e is.0 refl refl (λ all. tt) (λ all. tt)
-read_plain dir file read.NoMemory number e is = absurd is
 
 module _ (names : List Binding) (name file : List ℕ) (dir : ℕ) (same : dir ≡ number_under names name) (old new : View) (repo : Told) (F G : Type 0) where
   read_event : (reply : ReadReply) → desk.Does old new (IsRead dir file reply) → held_by new ≡ held_by old → F ↔ G → Does (λ run. Serves names (asks.Cat name file) run names) old new repo repo F G
@@ -206,14 +192,6 @@ collect_plain (collect.Removed roots) number e is = plain_by (acts.Collect (Some
 collect_plain collect.NotCommitted number e is = plain_by (acts.Collect None) e is.0 refl refl (λ all. tt) (λ all. tt)
 collect_plain (collect.Broken broken) number e is = elim is [ inl refused ↦ plain_by (acts.Refused calls.Collect broken) e refused.0 refl refl (λ all. tt) (λ all. tt) | inr failed ↦ plain_by (acts.Collect (Some failed.0)) e failed.1.1 refl refl (λ all. tt) (λ all. tt) ]
 collect_plain collect.NoMemory number e is = absurd is
-
-retain_plain : (roots : List Root) (count : ℕ) (reply : RetainReply) (number : ℕ) (e : Event) → IsRetained roots count reply number e → IsPlainEvent e
-retain_plain roots count retain.Done number e is = plain_by (acts.Retain roots retains.Done is.0) e is.1.0 refl refl (λ all. tt) (λ all. tt)
-retain_plain roots count retain.SlotInUse number e is = plain_by (acts.Retain roots retains.SlotInUse is.0) e is.1.0 refl refl (λ all. tt) (λ all. tt)
-retain_plain roots count retain.DiskRead number e is = plain_by (acts.Retain roots retains.DiskRead is.0) e is.1.0 refl refl (λ all. tt) (λ all. tt)
-retain_plain roots count (retain.Rotten root got) number e is = plain_by (acts.Retain roots (retains.Rotten root got) is.0) e is.1.0 refl refl (λ all. tt) (λ all. tt)
-retain_plain roots count (retain.Broken broken) number e is = plain_by (acts.Refused (calls.Retain count) broken) e is.0 refl refl (λ all. tt) (λ all. tt)
-retain_plain roots count retain.NoMemory number e is = absurd is
 
 commit_plain : (reply : CommitReply) (number : ℕ) (e : Event) → IsCommitted reply number e → IsPlainEvent e
 commit_plain commit.Committed number e is = plain_by (acts.Commit true) e is.0 refl refl (λ all. tt) (λ all. tt)

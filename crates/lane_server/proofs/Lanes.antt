@@ -6,14 +6,15 @@ use Rattle.std.proofs.lemmas.List.Elements.{All-head, All-take, All-drop, filter
 use Rattle.std.proofs.Math.Seq.{take-append_seam, drop-append_seam}
 use Rattle.script_lang.specs.declared.request.Ask.{Ask}
 use Rattle.script_lang.specs.declared.request.Request.{Request}
+use Rattle.script_lang.specs.Servable.{IsServable}
 use Rattle.store_model.specs.History.{Numbered}
 use Rattle.store_model.specs.Desk.{View, held_by}
 use Rattle.system_updater.specs.Serving.{joined}
 use Rattle.system_updater.specs.Viewing.{Told}
-use Rattle.system_updater.specs.Steps as steps
-use Rattle.system_updater.proofs.Goes.{does_none, does_then}
+use Rattle.system_updater.specs.Viewing as viewing
+use Rattle.system_updater.proofs.Goes.{does_none, does_then, joined_then}
 use Rattle.lane_server.specs.declared.names.Binding.{Binding}
-use Rattle.lane_server.specs.Serving.{Serves, IsCut, IsServable, Leads, ServesAll, ServesFront, ServesTo, asks_of}
+use Rattle.lane_server.specs.Serving.{Serves, IsCut, Leads, ServesAll, ServesFront, ServesTo, asks_of}
 use Rattle.lane_server.specs.Steps.{Served, ServesOwn}
 use Rattle.lane_server.specs.Viewing.{Does}
 
@@ -25,8 +26,7 @@ leads_push a b c [] ask (r ∷ rs) run leads serves = absurd leads
 leads_push a b c (x ∷ xs) ask [] run leads serves = absurd leads
 
 joined_push : (runs : List (List Numbered)) (run : List Numbered) → joined (runs ++ run ∷ []) ≡ joined runs ++ run
-joined_push [] run = append-nil run
-joined_push (r ∷ rs) run = ap (λ (es : List Numbered). r ++ es) (joined_push rs run) ∙ sym (append_assoc r (joined rs) run)
+joined_push runs run = joined_then runs (run ∷ []) ∙ ap (λ (es : List Numbered). joined runs ++ es) (append-nil run)
 
 all_behind : (xs ys : List Ask) → All IsServable (xs ++ ys) → All IsServable ys
 all_behind xs ys all = subst (All IsServable) (drop-append_seam xs ys) (All-drop IsServable (length xs) (xs ++ ys) all)
@@ -44,7 +44,7 @@ module _ (done : List Ask) (names later : List Binding) (ask : Ask) (v w u : Vie
   served_push h k = record {
     runs = h.runs ++ k.run ∷ [];
     leads = leads_push [] names later done ask h.runs k.run h.leads k.its;
-    does = subst (λ (es : List Numbered). steps.Does es v u r t F H) (sym (joined_push h.runs k.run)) (does_then (joined h.runs) k.run v w u r s t F G H h.does k.does);
+    does = subst (λ (es : List Numbered). viewing.Does es v u r t F H) (sym (joined_push h.runs k.run)) (does_then (joined h.runs) k.run v w u r s t F G H h.does k.does);
     tickets = k.tickets ∙ h.tickets;
     stage = k.stage ∙ h.stage;
   }
@@ -76,7 +76,7 @@ module _ (A E : Type 0) (done : List Ask) (names later : List Binding) (own : Bo
     passed k = record {
       runs = h.runs;
       leads = subst (λ (asks : List Ask). Leads [] asks h.runs later) (sym (append-nil done)) (subst (λ (n : List Binding). Leads [] done h.runs n) (sym k.its.1) h.leads);
-      does = subst (λ (es : List Numbered). steps.Does es v u r t F H) (ap (λ (es : List Numbered). joined h.runs ++ es) k.its.0 ∙ append-nil (joined h.runs)) (does_then (joined h.runs) k.run v w u r s t F G H h.does k.does);
+      does = subst (λ (es : List Numbered). viewing.Does es v u r t F H) (ap (λ (es : List Numbered). joined h.runs ++ es) k.its.0 ∙ append-nil (joined h.runs)) (does_then (joined h.runs) k.run v w u r s t F G H h.does k.does);
       tickets = k.tickets ∙ h.tickets;
       stage = k.stage ∙ h.stage;
     }

@@ -1,10 +1,9 @@
 -- How the events of a lane serve its requests: one run a request, in order.
-use Rattle.std.specs.Prelude.{◌≡◌, ◌≢◌, ◌≤◌, ℕ, ◌==◌, List, [], ◌∷◌, ◌++◌, length, map, filter, None, Result, Ok, Err}
+use Rattle.std.specs.Prelude.{◌≡◌, ◌≢◌, ℕ, ◌==◌, List, [], ◌∷◌, ◌++◌, length, map, filter, Result, Ok, Err}
 use Rattle.package_url.specs.declared.url.Url.{Url}
 use Rattle.script_lang.specs.declared.request.Ask.{Ask}
 use Rattle.script_lang.specs.declared.request.Ask.TheVariants as asks
 use Rattle.script_lang.specs.declared.request.Request.{Request}
-use Rattle.store_model.specs.declared.desk.TheConstants.{RETAIN_LIMIT}
 use Rattle.store_model.specs.declared.events.Event.{Event}
 use Rattle.store_model.specs.declared.replies.OpenReply.{OpenReply}
 use Rattle.store_model.specs.declared.replies.OpenReply.TheVariants as opening
@@ -20,15 +19,7 @@ use Rattle.system_updater.specs.Serving.{IsOne, joined}
 use Rattle.lane_server.specs.declared.names.Binding.{Binding}
 use Rattle.lane_server.specs.Names.{number_under, unbound, rebound}
 
--- ---- what can be asked of a desk
-
--- A URL names a package and no file of it; no more roots are given than may be retained. So it is of each request
--- of a script that was read.
-abbrev pub IsServable : Ask → Type 0
-IsServable (asks.Resolve name url) = url.file ≡ None
-IsServable (asks.Update url) = url.file ≡ None
-IsServable (asks.Retain roots) = length roots ≤ RETAIN_LIMIT
-IsServable ask = Unit {0}
+-- ---- the requests of a lane
 
 -- what the lane asks for, in order
 abbrev pub asks_of : ℕ → List Request → List Ask

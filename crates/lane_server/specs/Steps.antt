@@ -4,7 +4,7 @@ use Rattle.script_lang.specs.declared.request.Ask.{Ask}
 use Rattle.store_model.specs.History.{Numbered}
 use Rattle.store_model.specs.Desk.{View, held_by}
 use Rattle.system_updater.specs.Serving.{joined}
-use Rattle.system_updater.specs.Steps as steps
+use Rattle.system_updater.specs.Viewing as viewing
 use Rattle.system_updater.specs.Viewing.{Told}
 use Rattle.lane_server.specs.declared.names.Binding.{Binding}
 use Rattle.lane_server.specs.Serving.{Leads, ServesOne}
@@ -14,7 +14,7 @@ pub record Served (done : List Ask) (names : List Binding) (old new : View) (rep
     (Before After : Type 0) : Type 0 where
   pub runs : List (List Numbered)
   pub leads : Leads [] done runs names
-  pub does : steps.Does (joined runs) old new repo repo_now Before After
+  pub does : viewing.Does (joined runs) old new repo repo_now Before After
   pub tickets : (held_by new).tickets ≡ (held_by old).tickets
   pub stage : (held_by new).stage ≡ (held_by old).stage
 

@@ -9,5 +9,5 @@ mod names;
 mod packages;
 mod serving;
 
-pub use laws::names_are_bound_and_unbound;
+pub use laws::{names_are_bound_and_unbound, requests_are_done_in_order};
 pub use serving::serve_lane;

@@ -2,10 +2,11 @@
 
 ghost use Rattle.std.specs.Prelude.{◌≡◌, ◌==◌, ℕ, List, [], ◌∷◌, All};
 ghost use Rattle.script_lang.specs.declared.request.Ask.{Ask as AskOf};
+ghost use Rattle.script_lang.specs.Servable.{IsServable};
 ghost use Rattle.store_model.specs.Calls.{HoldsNoClaim};
 ghost use Rattle.store_model.specs.History.{Numbered};
 ghost use Rattle.system_updater.specs.Viewing.{told};
-ghost use Rattle.lane_server.specs.Serving.{IsServable, ServesOne, ServesTo, asks_of};
+ghost use Rattle.lane_server.specs.Serving.{ServesOne, ServesTo, asks_of};
 ghost use Rattle.lane_server.specs.Steps.{ServesOwn};
 ghost use Rattle.lane_server.specs.Viewing.{Does};
 
@@ -59,7 +60,7 @@ fn serve_own<W: Wait, K: Desk, R: Repo>(
     requires servable { All IsServable (asks_of lane (request.now ∷ [])) }
     requires free { HoldsNoClaim (K.view desk.old) }
     ensures { Does (λ run. ServesOwn result names.old.bindings (request.now.lane == lane) request.now.ask run
-            names.new.bindings)
+        names.new.bindings)
         (K.view desk.old) (K.view desk.new)
         (told (R.listing repo.old) (R.files repo.old) (R.faults repo.old) (R.fetches repo.old))
         (told (R.listing repo.new) (R.files repo.new) (R.faults repo.new) (R.fetches repo.new))
