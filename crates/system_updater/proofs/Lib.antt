@@ -6,5 +6,4 @@ pub mod Wholes
 pub mod Judging
 pub mod Marks
 pub mod Staged
-pub mod Named
 pub mod Causes

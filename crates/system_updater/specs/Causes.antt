@@ -114,10 +114,11 @@ pub record IsRejection (file : ManifestFile) (why : ManifestFault) (part : List 
   pub rejected : IsOne (IsTold (replies.Manifest file why)) last
   pub both : part ≡ read ++ last
 
--- of want of memory there is none
+-- An image whose URL names no file is refused without an event, and of want of memory there is none.
 abbrev pub IsCause : UpdateReply → List Numbered → Type 0
 IsCause (replies.Resolve reply) part = IsResolve part reply
 IsCause (replies.Manifest file why) part = IsRejection file why part
+IsCause (replies.NoFile image) part = (part ≡ []) ⊎ IsOne (IsTold (replies.NoFile image)) part
 IsCause replies.NoMemory part = Unit {0}
 IsCause reply part = IsOne (IsTold reply) part
 
