@@ -5,6 +5,7 @@ pub mod Copied
 pub mod Copies
 pub mod Filled
 pub mod Landing
+pub mod Own
 mod Opened
 pub mod Stores
 pub mod Wants

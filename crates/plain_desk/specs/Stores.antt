@@ -1,5 +1,6 @@
 -- A store, as contracts see it, and what a lane's desk at it is seen as.
-use Rattle.std.specs.Prelude.{true, false, ◌⊎◌, not, filter, ◌-◌, ◌&&◌, nat_le, ◌≡◌, ◌≢◌, ◌<◌, ◌≤◌, ℕ, ◌==◌, List, [], ◌∷◌, ◌++◌, length, find, Option, Some, None, IfSome, if◌then◌else◌}
+use Rattle.std.specs.Prelude.{All, Bool, drop, true, false, ◌⊎◌, not, filter, ◌-◌, ◌&&◌, nat_le, ◌≡◌, ◌≢◌, ◌<◌, ◌≤◌, ℕ, ◌==◌, List, [], ◌∷◌, ◌++◌, length, find, Option, Some, None, IfSome, if◌then◌else◌}
+use Rattle.std.specs.List.{list_all}
 use Rattle.image_layout.specs.declared.ImageKind.{ImageKind}
 use Rattle.image_layout.specs.declared.ImageKind.TheVariants as images
 use Rattle.pkg_merkle.specs.declared.hasher.TheConstants.{BYTES_LIMIT}
@@ -54,6 +55,20 @@ view_of tie lane s = record {
   mine = of_lane lane s.history;
   fillers = s.images.fillers;
 }
+
+-- What came to the history is the lane's.
+pub record AddsOwn (lane : ℕ) (old new : List Event) : Type 0 where
+  pub more : List Event
+  pub own : All (λ (e : Event). e.lane ≡ lane) more
+  pub history : new ≡ old ++ more
+
+-- each event behind the first so many is the lane's
+abbrev pub are_own : ℕ → ℕ → List Event → Bool
+are_own lane began history = list_all (λ (e : Event). e.lane == lane) (drop began history)
+
+-- Each other lane's events are what they were.
+abbrev pub LeavesOthers : ℕ → List Event → List Event → Type 0
+LeavesOthers lane old new = (other : ℕ) → lane ≢ other → of_lane other new ≡ of_lane other old
 
 -- the bytes that the lane's desk stands for
 abbrev pub kept_for : ℕ → StoreOf → Keeping → List ℕ → Type 0

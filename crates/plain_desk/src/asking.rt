@@ -11,7 +11,7 @@ ghost use Rattle.store_model.specs.Acts.Begin.{begin_answer, has_to_read};
 ghost use Rattle.plain_stock.specs.Contents.{AreBytesOf};
 ghost use Rattle.plain_state.specs.Learning.{seen_of};
 ghost use Rattle.plain_ledger.specs.Ledgers.{Agrees, Stays, Tells};
-ghost use Rattle.plain_desk.specs.Stores.{view_of, kept_for, IsRefusal, IsBegunAs};
+ghost use Rattle.plain_desk.specs.Stores.{AddsOwn, view_of, kept_for, IsRefusal, IsBegunAs};
 
 use crate::store::Store;
 use package_indexes::Choice;
@@ -26,11 +26,12 @@ use store_model::{
 
 impl Store {
     /// Asks for a package.
-    pub(crate) fn begin(&mut self, lane: u32, path: &PackagePath, choice: Choice) -> BeginReply
+    pub fn begin(&mut self, lane: u32, path: &PackagePath, choice: Choice) -> BeginReply
         ensures event { (tie : List ℕ)
             → Begins path.now choice result (view_of tie lane self.old) (view_of tie lane self.new) }
         ensures kept { Keeps (kept_for lane self.old) (kept_for lane self.new) }
         ensures images { self.new.images ≡ self.old.images }
+        ensures own { AddsOwn lane self.old.history self.new.history }
     {
         match begin(
             self.alloc,
@@ -46,12 +47,13 @@ impl Store {
     }
 
     /// Asks what is missing of a package that arrives.
-    pub(crate) fn want(&mut self, lane: u32, ticket: Ticket) -> WantReply
+    pub fn want(&mut self, lane: u32, ticket: Ticket) -> WantReply
         requires holds { HoldsTicket (view_of [] lane self.old) ticket }
         requires free { HoldsNoClaim (view_of [] lane self.old) }
         ensures event { (tie : List ℕ) → Wants ticket result (view_of tie lane self.old) (view_of tie lane self.new) }
         ensures kept { KeepsAtWant result (kept_for lane self.old) (kept_for lane self.new) }
         ensures images { self.new.images ≡ self.old.images }
+        ensures own { AddsOwn lane self.old.history self.new.history }
     {
         match self.ledger.state().want_answer(ticket.number) {
             Some(WantEnd::Failed(cause)) => {
@@ -71,12 +73,13 @@ impl Store {
     }
 
     /// Ends a ticket.
-    pub(crate) fn give_up(&mut self, lane: u32, ticket: Ticket)
+    pub fn give_up(&mut self, lane: u32, ticket: Ticket)
         requires { HoldsTicket (view_of [] lane self.old) ticket }
         ensures event { (tie : List ℕ)
             → Does (view_of tie lane self.old) (view_of tie lane self.new) (IsGivenUp ticket.number) }
         ensures kept { Keeps (kept_for lane self.old) (kept_for lane self.new) }
         ensures images { self.new.images ≡ self.old.images }
+        ensures own { AddsOwn lane self.old.history self.new.history }
     {
         self.ledger.give_up(lane, ticket.number);
     }

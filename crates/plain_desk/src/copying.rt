@@ -11,7 +11,7 @@ ghost use Rattle.store_model.specs.Replies.{IsCopied};
 ghost use Rattle.store_model.specs.Calls.{Copies, HoldsStage, IsWholeFile, KeepsAtCopy};
 ghost use Rattle.plain_stock.specs.Contents.{AreBytesOf};
 ghost use Rattle.plain_ledger.specs.Ledgers.{Agrees, Stays, Tells};
-ghost use Rattle.plain_desk.specs.Stores.{IsFileThere, kept_for, view_of};
+ghost use Rattle.plain_desk.specs.Stores.{AddsOwn, IsFileThere, kept_for, view_of};
 ghost use Rattle.plain_desk.specs.Filling.{IsCopiedAs};
 ghost use Rattle.plain_desk.specs.Copying.{CopiedBy, IsCopiedFile, IsCopiedFrom, next_part};
 
@@ -28,19 +28,14 @@ use store_model::{Act, CopyEnd, CopyReply, Dir, PIECE_LIMIT};
 
 impl Store {
     /// Copies the next part of a file into an image, at most 65,536 bytes.
-    pub(crate) fn copy_part(
-        &mut self,
-        lane: u32,
-        image: ImageKind,
-        dir: Dir,
-        file: &FilePath,
-    ) -> CopyReply
+    pub fn copy_part(&mut self, lane: u32, image: ImageKind, dir: Dir, file: &FilePath) -> CopyReply
         requires { HoldsStage (view_of [] lane self.old) Filling }
         ensures event { (tie : List ℕ)
             → Copies image dir.number file.now result (view_of tie lane self.old) (view_of tie lane self.new) }
         ensures kept { KeepsAtCopy (state_of (view_of [] lane self.new)) lane image dir.number file.now
             result self.old.images.fillers self.new.images.fillers (kept_for lane self.old) (kept_for lane self.new) }
         ensures whole { IsWholeFile image result self.new.images.fillers (kept_for lane self.new) }
+        ensures own { AddsOwn lane self.old.history self.new.history }
     {
         let Store {
             alloc,

@@ -14,7 +14,7 @@ ghost use Rattle.store_model.specs.Replies.{IsMissed};
 ghost use Rattle.store_model.specs.Calls.{MakesRoom, KeepsAtRoom, Puts, KeepsAtPut, Lands, KeepsAtLand, HoldsNewClaim, HoldsRoom, HoldsClaim, room_by};
 ghost use Rattle.plain_stock.specs.Contents.{AreBytesOf};
 ghost use Rattle.plain_ledger.specs.Ledgers.{Agrees, Notes, Stays};
-ghost use Rattle.plain_desk.specs.Stores.{Drafted, IsLandingEnd, IsLandedAs, HasLanded, draft_of, room_after, room_in, view_of, kept_for};
+ghost use Rattle.plain_desk.specs.Stores.{AddsOwn, Drafted, IsLandingEnd, IsLandedAs, HasLanded, draft_of, room_after, room_in, view_of, kept_for};
 
 use crate::asking::{copied, looked};
 use crate::store::Store;
@@ -32,12 +32,13 @@ use store_model::{Claim, LandReply, Miss, PutReply, RoomReply};
 impl Store {
     /// Makes room for a blob of this length. The memory for its bytes is taken here, so that none is
     /// wanted when they come.
-    pub(crate) fn room(&mut self, lane: u32, claim: Claim, len: u64) -> RoomReply
+    pub fn room(&mut self, lane: u32, claim: Claim, len: u64) -> RoomReply
         requires { HoldsNewClaim (view_of [] lane self.old) claim.root }
         ensures event { (tie : List ℕ)
             → MakesRoom claim len result (view_of tie lane self.old) (view_of tie lane self.new) }
         ensures kept { KeepsAtRoom result (kept_for lane self.old) (kept_for lane self.new) }
         ensures images { self.new.images ≡ self.old.images }
+        ensures own { AddsOwn lane self.old.history self.new.history }
     {
         match room(
             self.alloc,
@@ -54,12 +55,13 @@ impl Store {
     }
 
     /// Takes the next bytes of a blob.
-    pub(crate) fn put(&mut self, lane: u32, claim: Claim, bytes: &[u8]) -> PutReply
+    pub fn put(&mut self, lane: u32, claim: Claim, bytes: &[u8]) -> PutReply
         requires { HoldsRoom (view_of [] lane self.old) claim.root }
         ensures event { (tie : List ℕ) → Puts claim result (view_of tie lane self.old) (view_of tie lane self.new) }
         ensures kept { KeepsAtPut (room_by (view_of [] lane self.old)) bytes.now result
             (kept_for lane self.old) (kept_for lane self.new) }
         ensures images { self.new.images ≡ self.old.images }
+        ensures own { AddsOwn lane self.old.history self.new.history }
     {
         match put(&mut self.ledger, &mut self.drafts, lane, claim.root, bytes) {
             None => PutReply::Taken(claim),
@@ -68,13 +70,14 @@ impl Store {
     }
 
     /// Stores a blob whose bytes are there.
-    pub(crate) fn land(&mut self, lane: u32, claim: Claim) -> LandReply
+    pub fn land(&mut self, lane: u32, claim: Claim) -> LandReply
         requires { HoldsRoom (view_of [] lane self.old) claim.root }
         ensures event { (tie : List ℕ)
             → Lands claim (kept_for lane self.old) result (view_of tie lane self.old) (view_of tie lane self.new) }
         ensures kept { KeepsAtLand claim.root (room_by (view_of [] lane self.old)) result
             (kept_for lane self.old) (kept_for lane self.new) }
         ensures images { self.new.images ≡ self.old.images }
+        ensures own { AddsOwn lane self.old.history self.new.history }
     {
         match land(
             self.alloc,
@@ -91,12 +94,13 @@ impl Store {
     }
 
     /// Ends a claim without its bytes.
-    pub(crate) fn miss(&mut self, lane: u32, claim: Claim, why: Miss)
+    pub fn miss(&mut self, lane: u32, claim: Claim, why: Miss)
         requires { HoldsClaim (view_of [] lane self.old) claim.root }
         ensures event { (tie : List ℕ)
             → Does (view_of tie lane self.old) (view_of tie lane self.new) (IsMissed claim.root why) }
         ensures kept { KeepsImages (kept_for lane self.old) (kept_for lane self.new) }
         ensures images { self.new.images ≡ self.old.images }
+        ensures own { AddsOwn lane self.old.history self.new.history }
     {
         self.ledger.miss(lane, claim.root, why);
         self.drafts.end(lane);

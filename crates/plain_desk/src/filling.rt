@@ -11,7 +11,7 @@ ghost use Rattle.store_model.specs.Acts.Stage.{stage_answer};
 ghost use Rattle.plain_stock.specs.Contents.{AreBytesOf};
 ghost use Rattle.plain_state.specs.Judged.{IsReadAll};
 ghost use Rattle.plain_ledger.specs.Ledgers.{Stays, Tells};
-ghost use Rattle.plain_desk.specs.Stores.{view_of, kept_for};
+ghost use Rattle.plain_desk.specs.Stores.{AddsOwn, view_of, kept_for};
 ghost use Rattle.plain_desk.specs.Filling.{IsUnstaged, IsStagedAs, IsActivatedAs, IsSealedOf, StagedBy, images_at_stage};
 
 use crate::store::Store;
@@ -26,10 +26,11 @@ use store_model::{
 
 impl Store {
     /// Begins an update to a system of this epoch.
-    pub(crate) fn stage(&mut self, lane: u32, epoch: u64) -> StageReply
+    pub fn stage(&mut self, lane: u32, epoch: u64) -> StageReply
         ensures event { (tie : List ℕ) → Stages epoch result (view_of tie lane self.old) (view_of tie lane self.new) }
         ensures kept { KeepsAtStage result (kept_for lane self.old) (kept_for lane self.new) }
         ensures fillers { self.new.images.fillers ≡ fillers_at_stage result self.old.images.fillers }
+        ensures own { AddsOwn lane self.old.history self.new.history }
     {
         let reply = stage(&mut self.ledger, lane, epoch);
         empty_at_turn(&mut self.images, &reply);
@@ -37,11 +38,12 @@ impl Store {
     }
 
     /// Ends the filling of the images, if they are those of this system.
-    pub(crate) fn seal(&mut self, lane: u32, sys: &Sys) -> SealReply
+    pub fn seal(&mut self, lane: u32, sys: &Sys) -> SealReply
         requires { HoldsStage (view_of [] lane self.old) Filling }
         ensures event { (tie : List ℕ) → Seals sys.now result (view_of tie lane self.old) (view_of tie lane self.new) }
         ensures kept { KeepsAtSeal sys.now result (kept_for lane self.old) (kept_for lane self.new) }
         ensures images { self.new.images ≡ self.old.images }
+        ensures own { AddsOwn lane self.old.history self.new.history }
     {
         match seal(&mut self.ledger, &self.images, lane, sys) {
             Ok(reply) => reply,
@@ -50,11 +52,12 @@ impl Store {
     }
 
     /// Judges the sealed system, and has it boot next.
-    pub(crate) fn activate(&mut self, lane: u32) -> ActivateReply
+    pub fn activate(&mut self, lane: u32) -> ActivateReply
         requires { HoldsSealed (view_of [] lane self.old) }
         ensures event { (tie : List ℕ) → Activates result (view_of tie lane self.old) (view_of tie lane self.new) }
         ensures kept { Keeps (kept_for lane self.old) (kept_for lane self.new) }
         ensures images { self.new.images ≡ self.old.images }
+        ensures own { AddsOwn lane self.old.history self.new.history }
     {
         match activate(&mut self.ledger, &self.contents, lane) {
             Ok(reply) => reply,
@@ -63,20 +66,22 @@ impl Store {
     }
 
     /// Ends the update.
-    pub(crate) fn leave_stage(&mut self, lane: u32)
+    pub fn leave_stage(&mut self, lane: u32)
         requires { HoldsAnyStage (view_of [] lane self.old) }
         ensures event { (tie : List ℕ) → Does (view_of tie lane self.old) (view_of tie lane self.new) HasLeftStage }
         ensures kept { Keeps (kept_for lane self.old) (kept_for lane self.new) }
         ensures images { self.new.images ≡ self.old.images }
+        ensures own { AddsOwn lane self.old.history self.new.history }
     {
         self.ledger.leave_stage(lane);
     }
 
     /// Has the running system stay.
-    pub(crate) fn commit(&mut self, lane: u32) -> CommitReply
+    pub fn commit(&mut self, lane: u32) -> CommitReply
         ensures event { (tie : List ℕ) → Commits result (view_of tie lane self.old) (view_of tie lane self.new) }
         ensures kept { Keeps (kept_for lane self.old) (kept_for lane self.new) }
         ensures images { self.new.images ≡ self.old.images }
+        ensures own { AddsOwn lane self.old.history self.new.history }
     {
         match commit(&mut self.ledger, lane) {
             Ok(reply) => reply,

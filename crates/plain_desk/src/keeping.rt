@@ -7,7 +7,7 @@ ghost use Rattle.store_model.specs.Calls.{Collects, Retains};
 ghost use Rattle.store_model.specs.Replies.{IsCollected, IsRetained};
 ghost use Rattle.plain_stock.specs.Contents.{AreBytesOf};
 ghost use Rattle.plain_ledger.specs.Ledgers.{Agrees, Stays, Tells};
-ghost use Rattle.plain_desk.specs.Stores.{AreRemoved, Clears, view_of, kept_for};
+ghost use Rattle.plain_desk.specs.Stores.{AddsOwn, AreRemoved, Clears, view_of, kept_for};
 
 use crate::store::Store;
 use pkg_names::{Root, Roots};
@@ -18,10 +18,11 @@ use store_model::{Act, CollectReply, Looked, RetainEnd, RetainReply};
 
 impl Store {
     /// Removes what no protected package names.
-    pub(crate) fn collect(&mut self, lane: u32) -> CollectReply
+    pub fn collect(&mut self, lane: u32) -> CollectReply
         ensures event { (tie : List ℕ) → Collects result (view_of tie lane self.old) (view_of tie lane self.new) }
         ensures kept { Keeps (kept_for lane self.old) (kept_for lane self.new) }
         ensures images { self.new.images ≡ self.old.images }
+        ensures own { AddsOwn lane self.old.history self.new.history }
     {
         match collect(self.alloc, &mut self.ledger, &mut self.contents, lane) {
             Ok(reply) => reply,
@@ -30,12 +31,13 @@ impl Store {
     }
 
     /// Retains these packages and no others.
-    pub(crate) fn retain(&mut self, lane: u32, roots: &[Root]) -> RetainReply
+    pub fn retain(&mut self, lane: u32, roots: &[Root]) -> RetainReply
         requires { length roots.now ≤ RETAIN_LIMIT }
         ensures event { (tie : List ℕ)
             → Retains roots.now result (view_of tie lane self.old) (view_of tie lane self.new) }
         ensures kept { Keeps (kept_for lane self.old) (kept_for lane self.new) }
         ensures images { self.new.images ≡ self.old.images }
+        ensures own { AddsOwn lane self.old.history self.new.history }
     {
         match retain(self.alloc, &mut self.ledger, &self.contents, lane, roots) {
             Ok(reply) => reply,

@@ -1,6 +1,8 @@
 //! A lane's desk at a store.
+#![tactic(auto, using(crate::proofs::Own::own_more, crate::proofs::Own::begun_more))]
 
-ghost use Rattle.std.specs.Prelude.{◌≡◌, ◌∷◌, []};
+ghost use Rattle.std.specs.Prelude.{◌≡◌, ◌≤◌, true, length};
+ghost use Rattle.plain_desk.specs.Stores.{are_own};
 
 use crate::store::Store;
 use image_layout::{ImageKind, Sys};
@@ -19,16 +21,39 @@ use system_lists::{ManifestFault, ManifestFile};
 pub struct Lane<'a> {
     store: &'a mut Store,
     number: u32,
+    // How long the history was when the loan began. What came since is the lane's.
+    began: u64,
+    ghost begun: { began ≤ length store.now.history },
+    ghost own: { are_own number began store.now.history ≡ true },
 }
 
 impl<'a> Lane<'a> {
+    ghost use Rattle.std.specs.Prelude.{take};
+    ghost use Rattle.plain_desk.specs.Stores.{AddsOwn, LeavesOthers};
+
     /// The desk of the lane with this number.
     pub fn make(store: &'a mut Store, number: u32) -> Lane<'a>
         ensures store { result.store.now ≡ store.old }
         ensures number { result.number ≡ number }
+        ensures began { result.began ≡ length store.old.history }
         ensures same { result.store.ghost_name ≡ store.entry.ghost_name }
     {
-        Lane { store, number }
+        let began = store.history_len();
+        Lane {
+            store,
+            number,
+            began,
+        }
+    }
+
+    /// What came to the history since the loan began is the lane's: nobody else is at the store.
+    pub fn alone(&self)
+        ensures own { AddsOwn self.now.number (take self.now.began self.now.store.now.history)
+            self.now.store.now.history }
+        ensures others { LeavesOthers self.now.number (take self.now.began self.now.store.now.history)
+            self.now.store.now.history }
+        ensures began { self.now.began ≤ length self.now.store.now.history }
+    {
     }
 }
 
@@ -36,8 +61,8 @@ impl<'a> Desk for Lane<'a> {
     ghost use Rattle.std.specs.Prelude.{◌∷◌, []};
     ghost use Rattle.plain_desk.specs.Stores.{view_of, kept_for};
 
-    // What ties a desk to its store is the loan.
-    ghost view = { λ l. view_of (l.store.ghost_name ∷ l.number ∷ []) l.number l.store.now };
+    // What ties a desk to its store is the loan, which began at this length of the history.
+    ghost view = { λ l. view_of (l.store.ghost_name ∷ l.number ∷ l.began ∷ []) l.number l.store.now };
 
     ghost kept = { λ l. kept_for l.number l.store.now };
 

@@ -10,7 +10,7 @@ ghost use Rattle.store_model.specs.Acts.Read.{IsDueRead, IsReadOfInner};
 ghost use Rattle.store_model.specs.Acts.Check.{IsDueCheck};
 ghost use Rattle.plain_stock.specs.Contents.{AreBytesOf};
 ghost use Rattle.plain_ledger.specs.Ledgers.{Agrees, Stays, Tells};
-ghost use Rattle.plain_desk.specs.Stores.{view_of, kept_for, IsFileThere, IsReadAs, IsCheckedAs};
+ghost use Rattle.plain_desk.specs.Stores.{AddsOwn, view_of, kept_for, IsFileThere, IsReadAs, IsCheckedAs};
 
 use crate::store::Store;
 use pkg_merkle::{BYTES_LIMIT, root_of};
@@ -23,10 +23,11 @@ use store_model::{Act, CheckEnd, CheckReply, Dir, OpenReply, READ_LIMIT, ReadEnd
 
 impl Store {
     /// Opens a package that is here.
-    pub(crate) fn open_path(&mut self, lane: u32, path: &PackagePath) -> OpenReply
+    pub fn open_path(&mut self, lane: u32, path: &PackagePath) -> OpenReply
         ensures event { (tie : List ℕ) → Opens path.now result (view_of tie lane self.old) (view_of tie lane self.new) }
         ensures kept { Keeps (kept_for lane self.old) (kept_for lane self.new) }
         ensures images { self.new.images ≡ self.old.images }
+        ensures own { AddsOwn lane self.old.history self.new.history }
     {
         match open(self.alloc, &mut self.ledger, lane, path) {
             Ok(reply) => reply,
@@ -35,11 +36,12 @@ impl Store {
     }
 
     /// Reads a file whole.
-    pub(crate) fn read(&mut self, lane: u32, dir: Dir, file: &FilePath) -> ReadReply
+    pub fn read(&mut self, lane: u32, dir: Dir, file: &FilePath) -> ReadReply
         ensures event { (tie : List ℕ)
             → Reads dir.number file.now result (view_of tie lane self.old) (view_of tie lane self.new) }
         ensures kept { Keeps (kept_for lane self.old) (kept_for lane self.new) }
         ensures images { self.new.images ≡ self.old.images }
+        ensures own { AddsOwn lane self.old.history self.new.history }
     {
         match read(
             self.alloc,
@@ -55,11 +57,12 @@ impl Store {
     }
 
     /// Tells the root and the length of a file.
-    pub(crate) fn check(&mut self, lane: u32, dir: Dir, file: &FilePath) -> CheckReply
+    pub fn check(&mut self, lane: u32, dir: Dir, file: &FilePath) -> CheckReply
         ensures event { (tie : List ℕ)
             → Checks dir.number file.now result (view_of tie lane self.old) (view_of tie lane self.new) }
         ensures kept { Keeps (kept_for lane self.old) (kept_for lane self.new) }
         ensures images { self.new.images ≡ self.old.images }
+        ensures own { AddsOwn lane self.old.history self.new.history }
     {
         match check(self.alloc, &mut self.ledger, lane, dir.number, file) {
             Ok(reply) => reply,

@@ -1,9 +1,9 @@
 //! The store: its ledger, the bytes of its blobs, and what lanes are putting together.
 
-ghost use Rattle.std.specs.Prelude.{◌≡◌, List, ℕ};
+ghost use Rattle.std.specs.Prelude.{◌≡◌, List, ℕ, length};
 ghost use Rattle.store_model.specs.Desk.{Keeps, Rests};
 ghost use Rattle.store_model.specs.Calls.{Closes, Rejects};
-ghost use Rattle.plain_desk.specs.Stores.{view_of, kept_for};
+ghost use Rattle.plain_desk.specs.Stores.{AddsOwn, view_of, kept_for};
 
 use plain_drafts::{Drafts, Images};
 use plain_ledger::Ledger;
@@ -40,16 +40,12 @@ impl Model for Store {
 
 impl Store {
     /// Notes that a manifest of an update is bad.
-    pub(crate) fn reject(
-        &mut self,
-        lane: u32,
-        file: ManifestFile,
-        why: ManifestFault,
-    ) -> RejectReply
+    pub fn reject(&mut self, lane: u32, file: ManifestFile, why: ManifestFault) -> RejectReply
         ensures event { (tie : List ℕ)
             → Rejects file why result (view_of tie lane self.old) (view_of tie lane self.new) }
         ensures kept { Keeps (kept_for lane self.old) (kept_for lane self.new) }
         ensures images { self.new.images ≡ self.old.images }
+        ensures own { AddsOwn lane self.old.history self.new.history }
     {
         match self.ledger.note(lane, Act::Reject { file, why }) {
             Ok(()) => RejectReply::Noted,
@@ -58,17 +54,25 @@ impl Store {
     }
 
     /// Closes a directory.
-    pub(crate) fn close(&mut self, lane: u32, dir: Dir) -> CloseReply
+    pub fn close(&mut self, lane: u32, dir: Dir) -> CloseReply
         ensures event { (tie : List ℕ)
             → Closes dir.number result (view_of tie lane self.old) (view_of tie lane self.new) }
         ensures kept { Keeps (kept_for lane self.old) (kept_for lane self.new) }
         ensures images { self.new.images ≡ self.old.images }
+        ensures own { AddsOwn lane self.old.history self.new.history }
     {
         match self.ledger.close(lane, dir.number) {
             Ok(true) => CloseReply::Closed,
             Ok(false) => CloseReply::BadDir,
             Err(_) => CloseReply::NoMemory,
         }
+    }
+
+    /// How many events there are.
+    pub(crate) fn history_len(&self) -> u64
+        ensures { result ≡ length self.now.history }
+    {
+        self.ledger.next_number() - 1
     }
 
     /// Does nothing: nobody else is at the store.

@@ -1,6 +1,7 @@
 use Rattle.store_model.specs.Replies.{IsActivated}
 use Rattle.plain_desk.proofs.Stores.{answered, tells, rests}
 use Rattle.plain_desk.proofs.Filled.{activates, held_sealed}
+use Rattle.plain_desk.proofs.Own.{apart, by_event}
 use Rattle.plain_desk.proofs.store.Store.activate.Goals as goal
 use Rattle.plain_desk.proofs.store.Store.activate.Goals.{in-Ok, in-Err}
 
@@ -15,3 +16,6 @@ returns-clause-event c = λ tie. elim c.match-activate.branch [
   | in-Ok w ↦ rw w.result-is (activates _ _ _ (tells (IsActivated w.in-Ok.reply) c.self.view_is w.in-Ok.ensures.ok))
   | in-Err w ↦ rw w.result-is (rests c.self.view_is w.in-Err.ensures.err)
 ]
+
+pub returns-clause-own : goal.returns-clause-own
+returns-clause-own c = apart c.args.lane c.self.inside.ledger c.activate.new.ledger c.activate.result c.self.view_is (λ a t. by_event c.self.view_is t.notes) c.activate.ensures.ok c.activate.ensures.err

@@ -1,6 +1,7 @@
 use Rattle.store_model.specs.Replies.{IsCommitted}
 use Rattle.plain_desk.proofs.Stores.{answered, tells, rests}
 use Rattle.plain_desk.proofs.Filled.{commits}
+use Rattle.plain_desk.proofs.Own.{apart, by_event}
 use Rattle.plain_desk.proofs.store.Store.commit.Goals as goal
 use Rattle.plain_desk.proofs.store.Store.commit.Goals.{in-Ok, in-Err}
 
@@ -12,3 +13,6 @@ returns-clause-event c = λ tie. elim c.match-commit.branch [
   | in-Ok w ↦ rw w.result-is (commits _ _ _ (tells (IsCommitted w.in-Ok.reply) c.self.view_is w.in-Ok.ensures.ok))
   | in-Err w ↦ rw w.result-is (rests c.self.view_is w.in-Err.ensures.err)
 ]
+
+pub returns-clause-own : goal.returns-clause-own
+returns-clause-own c = apart c.args.lane c.self.inside.ledger c.commit.new.ledger c.commit.result c.self.view_is (λ a t. by_event c.self.view_is t.notes) c.commit.ensures.ok c.commit.ensures.err

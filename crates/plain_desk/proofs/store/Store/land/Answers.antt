@@ -8,6 +8,7 @@ use Rattle.plain_desk.specs.Stores.{StoreOf, view_of}
 use Rattle.plain_desk.proofs.Stores.{here, rests, view_at}
 use Rattle.plain_desk.proofs.Claims.{has_room}
 use Rattle.plain_desk.proofs.Landing.{land_made, landed, landing_ended, stored_as}
+use Rattle.plain_desk.proofs.Own.{apart, landed_apart}
 use Rattle.plain_desk.proofs.store.Store.land.Goals as goal
 use Rattle.plain_desk.proofs.store.Store.land.Goals.{in-Ok-None, in-Ok-Some, in-Err}
 
@@ -31,3 +32,6 @@ returns-clause-event c = λ tie. elim c.match-land.branch [
       (landing_ended c.args.claim.root w.in-Ok-Some.end c.self.view_is c.self.invariant.roomy h.1))
   | in-Err w ↦ rw w.result-is (rests c.self.view_is w.in-Err.ensures.err, refl)
 ]
+
+pub returns-clause-own : goal.returns-clause-own
+returns-clause-own c = apart c.args.lane c.self.inside.ledger c.land.new.ledger c.land.result c.self.view_is (λ end so. landed_apart c.args.lane c.self.inside.ledger c.land.new.ledger c.args.claim.root _ _ c.self.view_is end so) c.land.ensures.ok c.land.ensures.err

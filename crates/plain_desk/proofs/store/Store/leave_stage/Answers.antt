@@ -2,6 +2,7 @@ use Rattle.std.proofs.Common.{refl}
 use Rattle.store_model.specs.Replies.{HasLeftStage}
 use Rattle.plain_desk.proofs.Stores.{does, moved, notes_moves}
 use Rattle.plain_desk.proofs.Filled.{held_stage}
+use Rattle.plain_desk.proofs.Own.{by_event}
 use Rattle.plain_desk.proofs.store.Store.leave_stage.Goals as goal
 
 pub leave_stage-requires : goal.leave_stage-requires
@@ -12,3 +13,6 @@ invariant_of-self c = moved c.self.invariant (notes_moves c.leave_stage.ensures 
 
 pub returns-clause-event : goal.returns-clause-event
 returns-clause-event c = λ tie. does HasLeftStage c.self.view_is c.leave_stage.ensures (refl, refl)
+
+pub returns-clause-own : goal.returns-clause-own
+returns-clause-own c = by_event c.self.view_is c.leave_stage.ensures

@@ -4,6 +4,7 @@ use Rattle.store_model.specs.Calls.{HoldsClaim}
 use Rattle.plain_desk.specs.Stores.{StoreOf, view_of}
 use Rattle.plain_desk.proofs.Stores.{bytes_stay, does, drafted, here}
 use Rattle.plain_desk.proofs.Claims.{missed_due}
+use Rattle.plain_desk.proofs.Own.{by_event}
 use Rattle.plain_desk.proofs.store.Store.miss.Goals as goal
 
 pub miss-requires : goal.miss-requires
@@ -16,3 +17,6 @@ invariant_of-self c = drafted c.self.invariant c.miss.ensures (bytes_stay c.self
 
 pub returns-clause-event : goal.returns-clause-event
 returns-clause-event c = λ tie. does (IsMissed c.args.claim.root c.args.why) c.self.view_is c.miss.ensures (refl, refl)
+
+pub returns-clause-own : goal.returns-clause-own
+returns-clause-own c = by_event c.self.view_is c.miss.ensures

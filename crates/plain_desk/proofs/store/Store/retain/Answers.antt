@@ -2,6 +2,7 @@ use Rattle.std.proofs.Common.{length}
 use Rattle.store_model.specs.Replies.{IsRetained}
 use Rattle.plain_desk.proofs.Stores.{answered, tells, rests}
 use Rattle.plain_desk.proofs.Answered.{retains}
+use Rattle.plain_desk.proofs.Own.{apart, by_event}
 use Rattle.plain_desk.proofs.store.Store.retain.Goals as goal
 use Rattle.plain_desk.proofs.store.Store.retain.Goals.{in-Ok, in-Err}
 
@@ -13,3 +14,6 @@ returns-clause-event c = λ tie. elim c.match-retain.branch [
   | in-Ok w ↦ rw w.result-is (retains _ _ _ _ (tells (IsRetained c.args.roots.now (length c.args.roots.now) w.in-Ok.reply) c.self.view_is w.in-Ok.ensures.ok))
   | in-Err w ↦ rw w.result-is (rests c.self.view_is w.in-Err.ensures.err)
 ]
+
+pub returns-clause-own : goal.returns-clause-own
+returns-clause-own c = apart c.args.lane c.self.inside.ledger c.retain.new.ledger c.retain.result c.self.view_is (λ a t. by_event c.self.view_is t.notes) c.retain.ensures.ok c.retain.ensures.err

@@ -6,6 +6,7 @@ use Rattle.store_model.specs.declared.replies.RoomReply.TheVariants as room
 use Rattle.plain_desk.specs.Stores.{StoreOf, view_of}
 use Rattle.plain_desk.proofs.Stores.{does, here, rests}
 use Rattle.plain_desk.proofs.Claims.{roomless, room_made}
+use Rattle.plain_desk.proofs.Own.{apart, by_event}
 use Rattle.plain_desk.proofs.store.Store.room.Goals as goal
 use Rattle.plain_desk.proofs.store.Store.room.Goals.{in-Ok-None, in-Ok-Some, in-Err}
 
@@ -29,3 +30,6 @@ returns-clause-event c = λ tie. elim c.match-room.branch [
       (ap (acts.Room c.args.claim.root c.args.len) w.in-Ok-Some.field-0-is, refl))
   | in-Err w ↦ rw w.result-is (rests c.self.view_is w.in-Err.ensures.err, refl)
 ]
+
+pub returns-clause-own : goal.returns-clause-own
+returns-clause-own c = apart c.args.lane c.self.inside.ledger c.room.new.ledger c.room.result c.self.view_is (λ a n. by_event c.self.view_is n) c.room.ensures.ok c.room.ensures.err

@@ -1,6 +1,7 @@
 use Rattle.store_model.specs.Replies.{IsSealed}
 use Rattle.plain_desk.proofs.Stores.{answered, tells, rests}
 use Rattle.plain_desk.proofs.Filled.{all_kept, held_phase, seal_keeps, seals}
+use Rattle.plain_desk.proofs.Own.{apart, by_event}
 use Rattle.plain_desk.proofs.store.Store.seal.Goals as goal
 use Rattle.plain_desk.proofs.store.Store.seal.Goals.{in-Ok, in-Err}
 
@@ -21,3 +22,6 @@ returns-clause-kept c = elim c.match-seal.branch [
   | in-Ok w ↦ rw w.result-is (seal_keeps c.args.lane c.args.sys.now w.in-Ok.reply c.self.inside.ledger c.seal.new.ledger c.self.view_is w.in-Ok.ensures.sums)
   | in-Err w ↦ rw w.result-is (all_kept c.args.lane c.self.inside.ledger c.seal.new.ledger c.self.view_is)
 ]
+
+pub returns-clause-own : goal.returns-clause-own
+returns-clause-own c = apart c.args.lane c.self.inside.ledger c.seal.new.ledger c.seal.result c.self.view_is (λ a t. by_event c.self.view_is t.notes) c.seal.ensures.ok c.seal.ensures.err

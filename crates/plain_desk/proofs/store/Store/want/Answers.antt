@@ -8,6 +8,7 @@ use Rattle.store_model.specs.declared.replies.WantReply.TheVariants as want
 use Rattle.plain_desk.specs.Stores.{StoreOf, len_of, view_of}
 use Rattle.plain_desk.proofs.Stores.{moved, notes_moves, stays_moves, either, does, rests, here, rests_still, unbroken_at}
 use Rattle.plain_desk.proofs.Wants.{answers, want_due, quiet, may_go_on_still}
+use Rattle.plain_desk.proofs.Own.{apart, by_event}
 use Rattle.plain_desk.proofs.store.Store.want.Goals as goal
 use Rattle.plain_desk.proofs.store.Store.want.Goals.{in-Ok, in-Err, in-Ok-grant, in-Err-grant}
 
@@ -77,3 +78,12 @@ returns-in-None-clause-event c = λ tie.
           (here c.self.inside.ledger (λ (s : StoreOf). HoldsNoClaim (view_of [] c.args.lane s)) c.self.view_is c.requires.free)
           (answers c.args.ticket c.state.ensures c.want_answer.ensures ∙ c.in-None.is),
     )
+
+pub returns-in-Some-Failed-clause-own : goal.returns-in-Some-Failed-clause-own
+returns-in-Some-Failed-clause-own c = by_event c.self.view_is c.fail.ensures
+
+pub returns-after-open_ticket-clause-own : goal.returns-after-open_ticket-clause-own
+returns-after-open_ticket-clause-own c = apart c.args.lane c.self.inside.ledger c.open_ticket.new.self c.open_ticket.result c.self.view_is (λ a n. by_event c.self.view_is n.1) c.open_ticket.ensures.ok c.open_ticket.ensures.err
+
+pub returns-after-grant-clause-own : goal.returns-after-grant-clause-own
+returns-after-grant-clause-own c = apart c.args.lane c.self.inside.ledger c.grant.new.self c.grant.result c.self.view_is (λ a n. by_event c.self.view_is n) c.grant.ensures.ok c.grant.ensures.err
