@@ -1,8 +1,10 @@
-//! Tests of resolves and updates at stores in memory, over public calls, and what they share.
+//! Tests of resolves, updates and lanes at stores in memory, over public calls, and what they share.
 #![tactic(auto)]
 
 #[cfg(test)]
 mod resolves;
+#[cfg(test)]
+mod scripts;
 pub mod shop;
 #[cfg(test)]
 mod start;

@@ -18,7 +18,7 @@ use std::sync::Wait;
 use std::test::Fail;
 
 // A package of two files.
-fn example(alloc: Global) -> Result<(Shop, Root), Fail> {
+pub(crate) fn example(alloc: Global) -> Result<(Shop, Root), Fail> {
     let mut shop = Shop::new(alloc);
     let mut lines = Vec::new(alloc);
     shop.line(&mut lines, b"data/a", b"hi")?;
@@ -88,7 +88,7 @@ fn a_package_is_fetched_and_opened(rt: HostRuntime) -> Result<(), Fail> {
 }
 
 // The text ends so.
-fn ends(alloc: Global, text: &Bytes, end: &[u8], roots: &[Root]) -> Result<bool, Fail> {
+pub(crate) fn ends(alloc: Global, text: &Bytes, end: &[u8], roots: &[Root]) -> Result<bool, Fail> {
     Ok(text.as_slice().ends_with(&with_roots(alloc, end, roots)?))
 }
 

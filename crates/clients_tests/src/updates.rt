@@ -64,6 +64,12 @@ fn shop_of(alloc: Global, case: &Case) -> Result<(Shop, [Root; 4]), Fail> {
     Ok((shop, [system, images, roots[2], update]))
 }
 
+// The shop of an update to the system of an empty list.
+pub(crate) fn shop_of_update(alloc: Global) -> Result<Shop, Fail> {
+    let case = good(b"", b"");
+    Ok(shop_of(alloc, &case)?.0)
+}
+
 fn update_on<W: Wait>(
     rt: &W,
     alloc: Global,

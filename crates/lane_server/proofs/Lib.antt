@@ -1,0 +1,5 @@
+pub mod Asked
+pub mod Bindings
+pub mod Called
+pub mod Lanes
+pub mod Runs

@@ -1,0 +1,5 @@
+pub mod Names
+pub mod Serving
+pub mod Laws
+pub mod Steps
+pub mod Viewing
