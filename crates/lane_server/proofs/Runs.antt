@@ -1,6 +1,6 @@
 -- What the run of each request is, in other words.
 use Rattle.std.proofs.Common.{inl, inr, ◌≡◌, ◌≢◌, ℕ, ◌+◌, Bool, true, cond, List, [], ◌∷◌, ◌++◌, length, Option, refl, ap, ◌∙◌}
-use Rattle.std.specs.Prelude.{AllZip}
+use Rattle.std.specs.List.{AllZip}
 use Rattle.std.proofs.lemmas.List.Sums.{sum_by-cons}
 use Rattle.pkg_names.specs.NameAndVariant.{NameAndVariant}
 use Rattle.pkg_names.specs.declared.root.Root.{Root}
@@ -30,7 +30,7 @@ begins_once path pin (e ∷ es) reply asks ends whole =
 
 -- a call is one event
 called : {A : Type 0} (IsIts : A → ℕ → Event → Type 0) (after : A → List Binding) (run : List Numbered) (later : List Binding) → IsCalled IsIts after run later → length run ≡ 1
-called IsIts after run later is = ap (λ (es : List Numbered). length es) is.event.1.0
+called IsIts after run later is = ap (λ (es : List Numbered). length es) is.event.1
 
 module _ (begin : (path : NameAndVariant) (pin : Option Root) (run : List Numbered) (reply : ResolveReply) → resolve.Serves path pin run reply → AsksOnce path pin run)
     (ended : (path : NameAndVariant) (pin : Option Root) (run : List Numbered) (reply : ResolveReply) → resolve.Serves path pin run reply → AreEnded run)

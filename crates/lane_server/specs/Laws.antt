@@ -1,5 +1,6 @@
 -- The words in which the law tells what is done for a lane.
-use Rattle.std.specs.Prelude.{◌≡◌, List, [], ◌∷◌, ◌++◌, length, AllZip}
+use Rattle.std.specs.Prelude.{◌≡◌, List, [], ◌∷◌, ◌++◌, length}
+use Rattle.std.specs.List.{AllZip}
 use Rattle.script_lang.specs.declared.request.Ask.{Ask}
 use Rattle.script_lang.specs.declared.request.Ask.TheVariants as asks
 use Rattle.store_model.specs.History.{Numbered}
