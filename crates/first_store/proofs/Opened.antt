@@ -5,26 +5,26 @@ use Rattle.pkg_names.specs.declared.root.Root.{Root}
 use Rattle.pkg_names.specs.Root.{root_eq}
 use Rattle.pkg_names.proofs.Roots.{root_eq-true}
 use Rattle.pkg_merkle.specs.Merkle.{merkle_root}
+use Rattle.abr_record.specs.declared.Record.{Record}
 use Rattle.abr_record.specs.declared.Slot.{Slot}
 use Rattle.abr_record.specs.Boot.{factory_record}
+use Rattle.image_layout.specs.declared.geometry.Geometry.{Geometry}
+use Rattle.image_layout.specs.declared.Sys.{Sys}
 use Rattle.system_lists.specs.declared.fault.SystemFault.{SystemFault}
 use Rattle.system_lists.specs.Judging.{Verdict}
 use Rattle.system_lists.specs.Judging.Verdict.{Missing as as_missing, Faulty as as_faulty}
 use Rattle.store_model.specs.declared.events.LookedAt.{LookedAt}
-use Rattle.store_model.specs.State.{Standing, State, stored_len, sys_of, opened}
+use Rattle.store_model.specs.State.{Standing, Stored, stored_len, opened}
 use Rattle.plain_stock.specs.Contents.{AreBytesOf}
-use Rattle.plain_boot.specs.Starting.{IsRefused, IsToBoot}
+use Rattle.plain_boot.specs.Starting.{IsRefused}
 use Rattle.first_store.specs.Bytes.{start_bytes, HasStartBytes}
-use Rattle.first_store.specs.Start.{IsStart, system_meta, start_system, start_stock, start_geometry}
+use Rattle.first_store.specs.Start.{system_meta, start_system, start_stock}
 use Rattle.first_store.specs.Whole.{whole_start}
 use Rattle.first_store.proofs.Hands.{one_verdict, two_roots}
 
 -- what lasts at the start
 abbrev pub start : Standing
 start = record { stock = start_stock; abr = factory_record; a = Some start_system; b = None }
-
-pub is_start : IsStart start
-is_start = record { stock = refl; abr = refl; a = refl; b = refl }
 
 -- ---- the bytes are those of the stock
 
@@ -62,19 +62,15 @@ are_bytes contents has = record {
 
 -- ---- the boot has one end
 
-unsealed : (slot : Slot) → IsToBoot (opened start_geometry start) slot → sys_of (opened start_geometry start) slot ≡ None → ⊥
-unsealed slot boots none = let here = rw boots.chosen at none in cc
+verdict_of_start : (contents : List LookedAt) (g : Geometry) (d : Standing) (slot : Slot) (verdict : Verdict) → HasStartBytes contents → d ≡ start → IsRefused contents (opened g d) slot verdict → verdict ≡ whole_start
+verdict_of_start contents g d slot verdict has is refused =
+    one_verdict contents has (opened g start) slot verdict refl refl refl (subst (λ (d : Standing). IsRefused contents (opened g d) slot verdict) is refused)
 
-pub has_system : (d : Standing) (slot : Slot) → d ≡ start → IsToBoot (opened start_geometry d) slot → sys_of (opened start_geometry d) slot ≡ None → ⊥
-has_system d slot is boots none =
-    unsealed slot (subst (λ (d : Standing). IsToBoot (opened start_geometry d) slot) is boots) (subst (λ (d : Standing). sys_of (opened start_geometry d) slot ≡ None) is none)
+pub nothing_missing : (contents : List LookedAt) (g : Geometry) (d : Standing) (slot : Slot) (root : Root) → HasStartBytes contents → d ≡ start → IsRefused contents (opened g d) slot (as_missing root) → ⊥
+nothing_missing contents g d slot root has is refused = let same = verdict_of_start contents g d slot (as_missing root) has is refused in cc
 
-verdict_of_start : (contents : List LookedAt) (d : Standing) (slot : Slot) (verdict : Verdict) → HasStartBytes contents → d ≡ start → IsRefused contents (opened start_geometry d) slot verdict → verdict ≡ whole_start
-verdict_of_start contents d slot verdict has is refused =
-    one_verdict contents has (opened start_geometry start) slot verdict refl refl refl (subst (λ (d : Standing). IsRefused contents (opened start_geometry d) slot verdict) is refused)
+pub nothing_faulty : (contents : List LookedAt) (g : Geometry) (d : Standing) (slot : Slot) (why : SystemFault) → HasStartBytes contents → d ≡ start → IsRefused contents (opened g d) slot (as_faulty why) → ⊥
+nothing_faulty contents g d slot why has is refused = let same = verdict_of_start contents g d slot (as_faulty why) has is refused in cc
 
-pub nothing_missing : (contents : List LookedAt) (d : Standing) (slot : Slot) (root : Root) → HasStartBytes contents → d ≡ start → IsRefused contents (opened start_geometry d) slot (as_missing root) → ⊥
-nothing_missing contents d slot root has is refused = let same = verdict_of_start contents d slot (as_missing root) has is refused in cc
-
-pub nothing_faulty : (contents : List LookedAt) (d : Standing) (slot : Slot) (why : SystemFault) → HasStartBytes contents → d ≡ start → IsRefused contents (opened start_geometry d) slot (as_faulty why) → ⊥
-nothing_faulty contents d slot why has is refused = let same = verdict_of_start contents d slot (as_faulty why) has is refused in cc
+pub start_is : (stock : List Stored) (abr : Record) (sys : Sys) (d : Standing) → d ≡ record { stock = stock; abr = abr; a = Some sys; b = None } → stock ≡ start_stock → abr ≡ factory_record → sys ≡ start_system → d ≡ start
+start_is stock abr sys d is s r a = is ∙ rw (s, r, a) refl
