@@ -3,9 +3,7 @@ use Rattle.std.proofs.Common.{◌≡◌, ◌≢◌, ℕ, ◌++◌, List, [], ◌
 use Rattle.std.specs.Prelude.{◌↔◌}
 use Rattle.open_tracker.specs.declared.dirs.DirEntry.{DirEntry}
 use Rattle.package_url.specs.declared.url.Url.{Url}
-use Rattle.pkg_names.specs.NameAndVariant.{NameAndVariant}
 use Rattle.pkg_names.specs.declared.pinned.Pinned.{Pinned}
-use Rattle.pkg_names.specs.declared.root.Root.{Root}
 use Rattle.repo_source.specs.declared.file.RepoFile.{RepoFile}
 use Rattle.script_lang.specs.declared.request.Ask.TheVariants as asks
 use Rattle.store_model.specs.History.{Numbered}
@@ -13,7 +11,6 @@ use Rattle.store_model.specs.Holding.{Held}
 use Rattle.store_model.specs.Desk.{View, held_by}
 use Rattle.resolver.specs.declared.reply.ResolveReply.{ResolveReply}
 use Rattle.resolver.specs.declared.reply.ResolveReply.TheVariants as resolved
-use Rattle.resolver.specs.Serving as resolve
 use Rattle.resolver.specs.Serving.Point.{Asking}
 use Rattle.resolver.specs.Viewing.{IsHeldAfter, Resolves}
 use Rattle.system_updater.specs.declared.reply.UpdateReply.{UpdateReply}

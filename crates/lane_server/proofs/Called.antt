@@ -1,19 +1,13 @@
 -- What a request that is one call comes to, by its reply.
-use Rattle.std.proofs.Common.{inl, inr, ◌≡◌, ℕ, ◌+◌, ◌++◌, true, false, List, [], ◌∷◌, length, Option, Some, None, refl, sym, ap, subst, ◌∙◌}
+use Rattle.std.proofs.Common.{inl, inr, ◌≡◌, ℕ, ◌+◌, ◌++◌, true, false, List, [], ◌∷◌, length, Some, None, refl, sym, ap, subst, ◌∙◌}
 use Rattle.std.specs.Prelude.{◌↔◌}
 use Rattle.pkg_names.specs.NameAndVariant.{NameAndVariant}
-use Rattle.pkg_names.specs.declared.pinned.Pinned.{Pinned}
 use Rattle.pkg_names.specs.declared.root.Root.{Root}
-use Rattle.repo_source.specs.declared.file.RepoFile.{RepoFile}
-use Rattle.script_lang.specs.declared.request.Ask.{Ask}
 use Rattle.script_lang.specs.declared.request.Ask.TheVariants as asks
 use Rattle.store_model.specs.declared.events.Event.{Event}
-use Rattle.store_model.specs.declared.events.Act.{Act}
 use Rattle.store_model.specs.declared.events.Act.TheVariants as acts
 use Rattle.store_model.specs.declared.events.CallName.TheVariants as calls
-use Rattle.store_model.specs.declared.ends.ReadEnd.TheVariants as reads
 use Rattle.store_model.specs.declared.ends.CheckEnd.TheVariants as checks
-use Rattle.store_model.specs.declared.ends.RetainEnd.TheVariants as retains
 use Rattle.store_model.specs.declared.replies.Dir.{Dir}
 use Rattle.store_model.specs.declared.replies.OpenReply.{OpenReply}
 use Rattle.store_model.specs.declared.replies.OpenReply.TheVariants as opening
@@ -31,7 +25,6 @@ use Rattle.store_model.specs.declared.replies.CommitReply.{CommitReply}
 use Rattle.store_model.specs.declared.replies.CommitReply.TheVariants as commit
 use Rattle.store_model.specs.History.{Numbered}
 use Rattle.store_model.specs.Holding.{Held}
-use Rattle.store_model.specs.HeldAfter.{IsHeldAfterOpen, held_after_close}
 use Rattle.store_model.specs.Desk as desk
 use Rattle.store_model.specs.Desk.{View, Rests, held_by}
 use Rattle.store_model.specs.Replies.{IsOpened, IsRead, IsChecked, IsClosed, IsCollected, IsRetained, IsCommitted}
@@ -39,14 +32,12 @@ use Rattle.store_model.specs.Calls as call
 use Rattle.store_model.proofs.Calls.{held_by-Rests}
 use Rattle.store_model.proofs.CallsHeld.{opened, closed}
 use Rattle.store_model.proofs.CallsRest.{held_after_read, held_after_check, held_after_collect, held_after_retain, held_after_commit}
-use Rattle.resolver.specs.Counting.{is_grant, is_failure}
-use Rattle.resolver.specs.Fetched.{ListsInAct, TellsInAct}
 use Rattle.system_updater.specs.Serving.{IsOne}
 use Rattle.system_updater.specs.Viewing.{Told}
 use Rattle.system_updater.proofs.Goes.{IsPlainEvent, plain_by, read_plain, retain_plain, does_event, does_rest, does_none}
 use Rattle.lane_server.specs.declared.names.Binding.{Binding}
 use Rattle.lane_server.specs.Names.{number_under, unbound}
-use Rattle.lane_server.specs.Serving.{Serves, IsCut, after_open}
+use Rattle.lane_server.specs.Serving.{Serves, after_open}
 use Rattle.lane_server.specs.Viewing.{Does}
 
 -- ---- one event, or none

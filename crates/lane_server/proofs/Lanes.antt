@@ -1,5 +1,5 @@
 -- The requests of a lane, one after another.
-use Rattle.std.proofs.Common.{◌≡◌, ℕ, ◌+◌, ◌<◌, ◌==◌, suc, add-one, Bool, true, false, cond, List, [], ◌∷◌, ◌++◌, length, get_or, drop, drop-cons, take, map, filter, refl, sym, ap, subst, ◌∙◌, append_assoc}
+use Rattle.std.proofs.Common.{◌≡◌, ℕ, ◌+◌, ◌<◌, ◌==◌, Bool, true, false, cond, List, [], ◌∷◌, ◌++◌, length, get_or, drop, take, map, filter, refl, sym, ap, subst, ◌∙◌, append_assoc}
 use Rattle.std.specs.Prelude.{All, Result, Ok, Err}
 use Rattle.std.proofs.lemmas.List.{append-nil, map-append, take_more, take-append-drop}
 use Rattle.std.proofs.lemmas.List.Elements.{All-head, All-take, All-drop, filter-append}
@@ -8,7 +8,7 @@ use Rattle.script_lang.specs.declared.request.Ask.{Ask}
 use Rattle.script_lang.specs.declared.request.Request.{Request}
 use Rattle.script_lang.specs.Servable.{IsServable}
 use Rattle.store_model.specs.History.{Numbered}
-use Rattle.store_model.specs.Desk.{View, held_by}
+use Rattle.store_model.specs.Desk.{View}
 use Rattle.system_updater.specs.Serving.{joined}
 use Rattle.system_updater.specs.Viewing.{Told}
 use Rattle.system_updater.specs.Viewing as viewing

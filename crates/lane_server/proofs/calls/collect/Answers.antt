@@ -1,6 +1,5 @@
 use Rattle.std.proofs.Common.{refl}
 use Rattle.script_lang.specs.declared.request.Ask.TheVariants as asks
-use Rattle.store_model.specs.declared.replies.CollectReply.TheVariants as collect
 use Rattle.lane_server.specs.Serving.{IsCut}
 use Rattle.lane_server.proofs.Called.{collect_served, rest_does}
 use Rattle.lane_server.proofs.calls.collect.Goals as goal

@@ -1,10 +1,8 @@
-use Rattle.std.proofs.Common.{◌≡◌, ◌+◌, ◌<◌, ◌==◌, ℕ, length, drop, take, Ok, Err, Result, sym, ap, subst, ◌∙◌, arith, rules}
+use Rattle.std.proofs.Common.{◌≡◌, length, Err, ap, ◌∙◌, arith, rules}
 use Rattle.std.proofs.lemmas.List.{take_all}
 use Rattle.std.specs.Allocator.{alloc_error}
 use Rattle.std.specs.declared.alloc.AllocError.{AllocError}
-use Rattle.script_lang.specs.declared.request.Request.{Request}
 use Rattle.lane_server.specs.Serving.{asks_of}
-use Rattle.lane_server.specs.Steps.{Served}
 use Rattle.lane_server.proofs.Lanes.{served_none, served_all, own_push, own_cut, asks_more, asks_parted, own_servable, answered, served_of, all_of}
 use Rattle.lane_server.proofs.serving.serve_lane.Goals as goal
 

@@ -1,7 +1,5 @@
 use Rattle.std.proofs.Common.{rules, ◌≡◌, ap, ◌∙◌}
-use Rattle.std.specs.Prelude.{List}
 use Rattle.std.proofs.lemmas.Fn.{filter_same}
-use Rattle.lane_server.specs.declared.names.Binding.{Binding}
 use Rattle.lane_server.specs.Names.{Named, unbound}
 use Rattle.lane_server.proofs.names.Names.unbind.Goals as goal
 
