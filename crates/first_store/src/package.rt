@@ -13,6 +13,7 @@ use pkg_names::{Bytes, FileFault, read_file, write_root};
 use std::alloc::{AllocError, Global};
 
 const CONTENTS_NAME: &[u8] = b"meta/contents";
+
 const PACKAGE_NAME: &[u8] = b"meta/package";
 
 // The line of the static list.
