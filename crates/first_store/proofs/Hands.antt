@@ -1,5 +1,5 @@
 -- What the two blobs say of the system package.
-use Rattle.std.proofs.Common.{◌≡◌, ℕ, Bool, true, false, not, cond, List, [], ◌∷◌, ◌++◌, inl, inr, length, map, Option, Some, None, is_some, Result, Ok, refl, sym, ap, ◌∙◌}
+use Rattle.std.proofs.Common.{◌≡◌, Bool, true, false, cond, List, [], ◌∷◌, inl, inr, length, Option, Some, refl, sym, ap, ◌∙◌}
 use Rattle.std.proofs.lemmas.Bool.{cases_Bool, true≢false}
 use Rattle.std.specs.Option.{option_map}
 use Rattle.pkg_names.specs.declared.root.Root.{Root}
@@ -10,20 +10,18 @@ use Rattle.abr_record.specs.declared.Slot.{Slot}
 use Rattle.abr_record.specs.Boot.{factory_record}
 use Rattle.image_layout.specs.declared.geometry.Geometry.{Geometry}
 use Rattle.image_layout.specs.declared.Sys.{Sys}
-use Rattle.package_book.specs.Book.{book}
 use Rattle.package_book.specs.Books.{Meta, Books, book_at}
 use Rattle.package_book.specs.Books.Meta.{Read}
 use Rattle.package_book.specs.Names.{names, listed_roots}
-use Rattle.system_lists.specs.Judging.{AtHand, Verdict, judged}
+use Rattle.system_lists.specs.Judging.{Verdict, judged}
 use Rattle.store_model.specs.declared.events.LookedAt.{LookedAt}
-use Rattle.store_model.specs.State.{State, Standing, Stored, stored_len, opened}
+use Rattle.store_model.specs.State.{State, Standing, stored_len, opened}
 use Rattle.store_model.specs.Settling.{with_looked, with_long}
 use Rattle.store_model.specs.Packages.{known_book}
 use Rattle.store_model.specs.Systems.{seen_bytes, booted_verdict, at_hand as at_hand_of}
-use Rattle.plain_stock.specs.Contents.{AreBytesOf}
 use Rattle.plain_boot.specs.AllBooks.{meta_of, all_books, all_at_hand}
 use Rattle.plain_boot.specs.Starting.{IsRefused}
-use Rattle.first_store.specs.Bytes.{start_bytes, HasStartBytes}
+use Rattle.first_store.specs.Bytes.{HasStartBytes}
 use Rattle.first_store.specs.Start.{IsStart, system_meta, system_book, start_system, start_stock}
 use Rattle.first_store.specs.Whole.{start_blobs, whole_start}
 use Rattle.first_store.proofs.Apart.{apart, size}

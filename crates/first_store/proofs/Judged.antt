@@ -1,9 +1,8 @@
 -- By both blobs the system is whole.
-use Rattle.std.proofs.Common.{◌≡◌, ℕ, Bool, true, false, not, cond, List, [], ◌∷◌, length, Option, Some, None, is_some, Result, Ok, refl, sym, ap, ◌∙◌}
-use Rattle.std.specs.Prelude.{find}
+use Rattle.std.proofs.Common.{◌≡◌, ℕ, true, [], ◌∷◌, Some, None, refl}
 use Rattle.pkg_names.specs.declared.root.Root.{Root}
 use Rattle.system_lists.specs.Entries.{listed}
-use Rattle.system_lists.specs.Judging.{AtHand, Verdict, static_name, cached_name, system_path, judged}
+use Rattle.system_lists.specs.Judging.{AtHand, static_name, cached_name, system_path, judged}
 use Rattle.system_lists.specs.Judging.Verdict.{Whole}
 
 -- what has to be at hand

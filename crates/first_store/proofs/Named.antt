@@ -1,5 +1,5 @@
 -- The names of the files in the archive, which are in order.
-use Rattle.std.proofs.Common.{◌≡◌, ℕ, zero, suc, refl, arith}
+use Rattle.std.proofs.Common.{ℕ, zero, suc, refl, arith}
 use Rattle.std.specs.Str.{is_utf8, chars}
 use lib.Utf8.{encode}
 use Rattle.pkg_names.specs.FileText.{IsFile}

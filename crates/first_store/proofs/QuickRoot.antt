@@ -1,9 +1,8 @@
 -- Merkle roots by the quick SHA-256.
-use Rattle.std.proofs.Common.{◌≡◌, ℕ, zero, suc, ◌+◌, List, [], ◌∷◌, ◌++◌, length, cond, refl, sym, ap, ◌∙◌}
+use Rattle.std.proofs.Common.{◌≡◌, ℕ, zero, suc, List, [], ◌∷◌, ◌++◌, length, cond, refl, ap, ◌∙◌}
 use Rattle.std.specs.Prelude.{◌==◌, if◌then◌else◌}
 use Rattle.std.specs.List.{flat_map}
 use Rattle.sha2.specs.Sha256.{sha256}
-use Rattle.pkg_names.specs.declared.root.Root.{Root}
 use Rattle.pkg_merkle.specs.Merkle.{block_count, level_inputs, hashes, root_above, merkle_root}
 use Rattle.first_store.proofs.Quick.{quick, quick_is}
 

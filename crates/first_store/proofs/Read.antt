@@ -1,5 +1,5 @@
 -- The meta blob is a book.
-use Rattle.std.proofs.Common.{◌≡◌, ℕ, List, [], ◌∷◌, length, false, Option, Some, None, Result, Ok, refl, sym, ap, ◌∙◌}
+use Rattle.std.proofs.Common.{◌≡◌, ℕ, List, length, false, None, Ok, refl}
 use Rattle.std.specs.Prelude.{codes, nat_lt}
 use Rattle.std.specs.Str.{is_utf8, chars}
 use lib.Utf8.{encode}
@@ -11,12 +11,11 @@ use Rattle.far_archive.specs.Fields as far
 use Rattle.far_archive.specs.Fields.{places, entry}
 use Rattle.far_archive.specs.Faults.{has_index, has_directory, has_name, has_range, entry_fault, entries_fault, index_fault, first_fault}
 use Rattle.far_archive.specs.Written.{written}
-use Rattle.meta_contents.specs.declared.package.PackageName.{PackageName}
 use Rattle.meta_contents.specs.Lines.{last_cut}
 use Rattle.meta_contents.specs.Contents.{reading, contents_of}
 use Rattle.meta_contents.specs.Package.{package_of}
 use Rattle.package_book.specs.declared.book.TheConstants.{META_LIMIT}
-use Rattle.package_book.specs.Book.{MetaAndFiles, book}
+use Rattle.package_book.specs.Book.{book}
 use Rattle.first_store.specs.Start.{outer_files, inner_files, system_meta, system_book}
 use Rattle.first_store.proofs.Literal.{contents_text, package_text, files, outer, bytes, outer_is, files_are, meta_is}
 

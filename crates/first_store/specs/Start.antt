@@ -1,6 +1,5 @@
 -- The store that the program begins with: the system package `system_image/0` alone, and the system of it in A.
 use Rattle.std.specs.Prelude.{◌≡◌, ℕ, List, [], ◌∷◌, length, codes, Some, None}
-use Rattle.pkg_names.specs.declared.root.Root.{Root}
 use Rattle.pkg_merkle.specs.Merkle.{merkle_root}
 use Rattle.far_archive.specs.Written.{written}
 use Rattle.meta_contents.specs.Contents.{Pair, text_of}

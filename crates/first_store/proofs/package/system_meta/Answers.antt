@@ -1,4 +1,4 @@
-use Rattle.std.proofs.Common.{◌≡◌, ℕ, List, Err, sym, ap, subst, ◌∙◌}
+use Rattle.std.proofs.Common.{◌≡◌, List, Err, ap, subst, ◌∙◌}
 use Rattle.far_archive.specs.declared.write.FarEntry.{FarEntry}
 use Rattle.far_archive.specs.Written.{listed, written, IsFirstUnordered}
 use Rattle.package_book.specs.Book.{Files}

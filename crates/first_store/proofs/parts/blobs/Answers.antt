@@ -1,4 +1,4 @@
-use Rattle.std.proofs.Common.{◌≡◌, ℕ, List, length, ap, ◌∙◌, arith}
+use Rattle.std.proofs.Common.{◌≡◌, length, ap, ◌∙◌, arith}
 use Rattle.first_store.specs.Start.{system_meta}
 use Rattle.first_store.proofs.Apart.{size}
 use Rattle.first_store.proofs.parts.blobs.Goals as goal
