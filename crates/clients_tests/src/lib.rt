@@ -6,6 +6,8 @@ mod resolves;
 #[cfg(test)]
 mod scripts;
 pub mod shop;
+#[cfg(test)]
+mod start;
 pub mod stores;
 #[cfg(test)]
 mod updates;

@@ -6,7 +6,7 @@ use Rattle.system_lists.specs.declared.fault.StaticFault.{StaticFault}
 use Rattle.system_lists.specs.declared.fault.StaticFault.TheVariants as static
 use Rattle.system_lists.specs.declared.list.TheConstants.{LIST_LIMIT}
 use Rattle.folder_repo.specs.declared.listing.DirFault.{DirFault}
-use Rattle.folder_repo.specs.declared.listing.DirFault.TheVariants.{Unreadable, BadListing, NoMemory}
+use Rattle.folder_repo.specs.declared.listing.DirFault.TheVariants.{BadListing, NoMemory}
 
 -- a listing, or its first bad line
 abbrev pub judged : Result (List Pinned) StaticFault → Result (List Pinned) DirFault

@@ -1,27 +1,28 @@
 //! A repository in a folder.
 
-ghost use Rattle.std.specs.Prelude.{◌≡◌, ◌↔◌, ◌++◌, false, codes, IfOk, IfErr};
+ghost use Rattle.std.specs.Prelude.{◌≡◌, ◌↔◌, ◌≤◌, false, is_some, None, Ok, Err, IfOk, IfErr};
 ghost use Rattle.std.specs.String.{string_bytes};
-ghost use Rattle.pkg_names.specs.Root.{root_text};
-ghost use Rattle.repo_source.specs.Repo.{listed_root, opens};
+ghost use Rattle.pkg_names.specs.Streams.{one_more, Rose};
+ghost use Rattle.repo_source.specs.Repo.{listed_root, opens, Fits};
+ghost use Rattle.folder_repo.specs.Folder.{blob_name as name_of_blob, ReadsListing, FetchesFile, find_reply};
 
+use crate::files::BlobFiles;
 use crate::listing::{DirFault, read_listing};
 use pkg_names::{PackagePath, Root};
 use repo_source::{FetchReply, FindReply, NextReply, Repo};
 use std::alloc::{AllocError, Global};
-use std::fs;
 use std::io::{ErrorKind, Read};
-use std::rt::Files;
 use system_lists::PinnedList;
 
 /// A folder whose file `listing` names the root of each package, and whose file `blobs/<root>` is the blob of that
 /// root.
 ///
-/// It doesn't tell what it holds, since a host's file may change. The listing is what was read when it was made.
-/// It fails where a blob is no regular file, or can't be opened though it is there, or can't be read.
+/// As a repository it doesn't tell what it holds, since a host's file may change. The listing is what was
+/// read when it was made. It fails where a blob is no regular file, or can't be opened though it is there,
+/// or can't be read.
 #[derive(Drop)]
-pub struct DirRepo<'a, F: Files> {
-    files: &'a F,
+pub struct DirRepo<F: BlobFiles + Drop> {
+    files: F,
     folder: String,
     listing: PinnedList,
     opened: Option<F::File>,
@@ -29,25 +30,36 @@ pub struct DirRepo<'a, F: Files> {
     faults: u64,
 }
 
-impl<'a, F: Files> DirRepo<'a, F> {
-    /// The repository in this folder of the host.
-    pub fn make(files: &'a F, alloc: Global, folder: &str) -> Result<DirRepo<'a, F>, DirFault>
+impl<F: BlobFiles + Drop> DirRepo<F> {
+    /// The repository in this folder.
+    pub fn make(files: F, alloc: Global, folder: &str) -> Result<DirRepo<F>, DirFault>
+        ensures listing { IfOk result (λ repo. ReadsListing (F.files files) folder.now (Ok repo.listing)) }
+        ensures fault { IfErr result (λ fault. ReadsListing (F.files files) folder.now (Err fault)) }
+        ensures files { IfOk result (λ repo. repo.files ≡ files) }
+        ensures folder { IfOk result (λ repo. string_bytes repo.folder ≡ folder.now) }
+        ensures closed { IfOk result (λ repo. is_some repo.opened ≡ false) }
         ensures fetches { IfOk result (λ repo. repo.fetches ≡ 0) }
         ensures faults { IfOk result (λ repo. repo.faults ≡ 0) }
     {
-        let listing = read_listing(files, alloc, folder)?;
-        Ok(DirRepo {
-            files,
-            folder: String::from_str(alloc, folder)?,
-            listing,
-            opened: None,
-            fetches: 0,
-            faults: 0,
-        })
+        let listing = match read_listing(&files, alloc, folder) {
+            Ok(listing) => listing,
+            Err(fault) => return Err(fault),
+        };
+        match String::from_str(alloc, folder) {
+            Ok(folder) => Ok(DirRepo {
+                files,
+                folder,
+                listing,
+                opened: None,
+                fetches: 0,
+                faults: 0,
+            }),
+            Err(_) => Err(DirFault::NoMemory),
+        }
     }
 }
 
-impl<F: Files> Repo for DirRepo<'_, F> {
+impl<F: BlobFiles + Drop> Repo for DirRepo<F> {
     ghost use Rattle.std.specs.Prelude.{[], is_some, None};
 
     ghost listing = { λ _. None };
@@ -62,16 +74,34 @@ impl<F: Files> Repo for DirRepo<'_, F> {
 
     ghost reading = { λ r. record { root = record { 0 = [] }; given = 0 } };
 
-    fn find(&mut self, path: &PackagePath) -> FindReply {
+    fn find(&mut self, path: &PackagePath) -> FindReply
+        ensures cause { result ≡ FindReply.Failed → Rose self.old.faults self.new.faults }
+
+        // The answer is exactly what the listing says that was read, and nothing changes.
+        ensures exact { result ≡ find_reply (listed_root self.old.listing path.now) }
+        ensures repo { self.new ≡ self.old }
+    {
         match root_of(&self.listing, path) {
             Some(root) => FindReply::Found(root),
             None => FindReply::Absent,
         }
     }
 
-    fn fetch(&mut self, alloc: Global, root: &Root) -> FetchReply {
+    fn fetch(&mut self, alloc: Global, root: &Root) -> FetchReply
+        ensures cause { result ≡ FetchReply.Failed → Rose self.old.faults self.new.faults }
+        ensures counted { self.new.fetches ≡ one_more self.old.fetches }
+        ensures opened { is_some self.new.opened ≡ opens result }
+        ensures faults { self.old.faults ≤ self.new.faults }
+
+        // A blob is found with the length of its file, and is absent only where there is no such file. What
+        // the folder is made of stays.
+        ensures file { FetchesFile (F.files self.old.files) (string_bytes self.old.folder) root.now result }
+        ensures listing_stays { self.new.listing ≡ self.old.listing }
+        ensures folder_stays { self.new.folder ≡ self.old.folder }
+        ensures files_stay { self.new.files ≡ self.old.files }
+    {
         self.fetches = self.fetches.saturating_add(1);
-        match open_blob(self.files, alloc, self.folder.as_str(), root) {
+        match open_blob(&self.files, alloc, self.folder.as_str(), root) {
             Ok((file, len)) => {
                 self.opened = Some(file);
                 FetchReply::Found { len }
@@ -113,30 +143,29 @@ fn root_of(listing: &PinnedList, path: &PackagePath) -> Option<Root>
 }
 
 // A blob's file, with its length. Where it isn't opened, what is answered.
-fn open_blob<F: Files>(
+fn open_blob<F: BlobFiles>(
     files: &F,
     alloc: Global,
     folder: &str,
     root: &Root,
 ) -> Result<(F::File, u64), FetchReply>
-    ensures { IfErr result (λ reply. opens reply ≡ false) }
+    ensures opened { IfOk result (λ opened.
+        FetchesFile (F.files files.now) folder.now root.now (FetchReply.Found opened.1)) }
+    ensures refused { IfErr result (λ reply. FetchesFile (F.files files.now) folder.now root.now reply) }
+    ensures closed { IfErr result (λ reply. opens reply ≡ false) }
 {
     let Ok(name) = blob_name(alloc, folder, root) else {
         return Err(FetchReply::NoMemory);
     };
-    match fs::metadata(files, name.as_str()) {
-        Ok(about) if about.is_file() => match fs::open(files, name.as_str()) {
-            Ok(file) => Ok((file, about.len())),
-            Err(e) => Err(reply_of(e.kind())),
-        },
-        Ok(_) => Err(FetchReply::Failed),
+    match files.open(name.as_str()) {
+        Ok((file, len)) => Ok((file, len)),
         Err(e) => Err(reply_of(e.kind())),
     }
 }
 
 // `<folder>/blobs/<root>`.
 fn blob_name(alloc: Global, folder: &str, root: &Root) -> Result<String, AllocError>
-    ensures { IfOk result (λ name. string_bytes name ≡ folder.now ++ codes "/blobs/" ++ root_text root.now) }
+    ensures { IfOk result (λ name. string_bytes name ≡ name_of_blob folder.now root.now) }
 {
     let digits = hex::encode(alloc, root.0)?;
     let mut name = String::from_str(alloc, folder)?;

@@ -3,9 +3,11 @@
 //! `docs/repositories.md` of the repository tells what such a folder has.
 #![tactic(auto)]
 
+mod files;
 mod folder;
 mod listing;
 
+pub use files::{BlobFiles, HostFiles};
 pub use folder::DirRepo;
 pub use listing::DirFault;
 

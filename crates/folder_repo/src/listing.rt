@@ -1,13 +1,14 @@
 //! The listing of a folder.
 
-ghost use Rattle.std.specs.Prelude.{◌≡◌, ◌↔◌, ◌⊎◌, Err};
+ghost use Rattle.std.specs.Prelude.{◌≡◌, ◌↔◌, ◌⊎◌, Some, Err, IfOk, IfSome};
+ghost use Rattle.std.specs.String.{string_bytes};
+ghost use Rattle.folder_repo.specs.Folder.{listing_name as name_of_listing, SaysListing, ReadsListing};
 ghost use Rattle.folder_repo.specs.Listing.{listing_in};
 ghost use Rattle.folder_repo.specs.declared.listing.DirFault.TheVariants as faults;
 
+use crate::files::BlobFiles;
 use std::alloc::{AllocError, Global};
-use std::fs;
 use std::io::{ErrorKind, Read};
-use std::rt::Files;
 use system_lists::{LIST_LIMIT, PinnedList, StaticFault, read_static};
 
 /// Why a folder is no repository.
@@ -30,31 +31,38 @@ impl From<AllocError> for DirFault {
 }
 
 // The listing of a folder.
-pub(crate) fn read_listing<F: Files>(
+pub(crate) fn read_listing<F: BlobFiles>(
     files: &F,
     alloc: Global,
     folder: &str,
-) -> Result<PinnedList, DirFault> {
-    let mut name = String::from_str(alloc, folder)?;
-    name.push_str("/listing")?;
-    let text = read_text(files, alloc, name.as_str())?;
-    listing_of(alloc, &text)
+) -> Result<PinnedList, DirFault>
+    ensures { ReadsListing (F.files files.now) folder.now result }
+{
+    let Ok(name) = listing_name(alloc, folder) else {
+        return Err(DirFault::NoMemory);
+    };
+    match files.open(name.as_str()) {
+        Ok((file, _)) => read_text(alloc, file),
+        Err(e) => Err(fault_of(e.kind())),
+    }
 }
 
-// What a file has, up to one byte more than a listing may have.
-fn read_text<F: Files>(files: &F, alloc: Global, name: &str) -> Result<Vec<u8>, DirFault> {
-    match fs::metadata(files, name) {
-        Ok(about) if about.is_file() => {}
-        Ok(_) => return Err(DirFault::Unreadable),
-        Err(e) => return Err(fault_of(e.kind())),
-    }
-    let file = match fs::open(files, name) {
-        Ok(file) => file,
-        Err(e) => return Err(fault_of(e.kind())),
-    };
+// `<folder>/listing`.
+fn listing_name(alloc: Global, folder: &str) -> Result<String, AllocError>
+    ensures { IfOk result (λ name. string_bytes name ≡ name_of_listing folder.now) }
+{
+    let mut name = String::from_str(alloc, folder)?;
+    name.push_str("/listing")?;
+    Ok(name)
+}
+
+// The listing in a file, of which one byte more is read than a listing may have.
+fn read_text<F: Read + Drop>(alloc: Global, file: F) -> Result<PinnedList, DirFault>
+    ensures { IfSome (F.remaining file) (λ all. SaysListing (Some all) result) }
+{
     let mut text = Vec::new(alloc);
     match file.take(LIST_LIMIT as u64 + 1).read_to_end(&mut text) {
-        Ok(_) => Ok(text),
+        Ok(_) => listing_of(alloc, &text),
         Err(e) => Err(fault_of(e.kind())),
     }
 }

@@ -1,4 +1,4 @@
-use crate::{DirFault, DirRepo};
+use crate::{DirFault, DirRepo, HostFiles};
 use pkg_names::{Root, read_path};
 use repo_source::{FetchReply, FindReply, NextReply, Repo};
 use std::alloc::Global;
@@ -33,7 +33,7 @@ fn list<F: Files>(files: &F, alloc: Global, place: &str, rest: &str) -> Result<(
 
 // Why the folder is no repository.
 fn fault_of<F: Files>(files: &F, alloc: Global, place: &str) -> Option<DirFault> {
-    DirRepo::make(files, alloc, place).err()
+    DirRepo::make(HostFiles::attach(files), alloc, place).err()
 }
 
 fn finds<R: Repo>(repo: &mut R, alloc: Global) -> Result<bool, Fail> {
@@ -61,7 +61,7 @@ fn reads<R: Repo>(repo: &mut R, alloc: Global) -> bool {
 }
 
 fn serves<F: Files>(files: &F, alloc: Global, place: &str) -> Result<bool, Fail> {
-    let mut repo = DirRepo::make(files, alloc, place)?;
+    let mut repo = DirRepo::make(HostFiles::attach(files), alloc, place)?;
     Ok(finds(&mut repo, alloc)? && fetches(&mut repo, alloc) && reads(&mut repo, alloc))
 }
 

@@ -12,19 +12,11 @@ row_acts-append first (p ∷ a) b =
     ap (λ (l : List DiskAct). Wrote first p ∷ l)
     (row_acts-append (first + 1) a b ∙ ap (λ (n : ℕ). row_acts (first + 1) a ++ row_acts n b) {x = first + 1 + length a} {y = first + suc (length a)} (omega arith))
 
-acts_none : (told : Option Past) → told ≡ with_acts told []
-acts_none None = refl
-acts_none (Some past) = ap (λ (t : List DiskAct). Some (record { start = past.start; trail = t })) (sym (append-nil past.trail))
-
 acts_then : (told mid new : Option Past) (a b : List DiskAct) → mid ≡ with_acts told a → new ≡ with_acts mid b → new ≡ with_acts told (a ++ b)
 acts_then None mid new a b e next = next ∙ ap (λ (o : Option Past). with_acts o b) e
 acts_then (Some past) mid new a b e next =
     next ∙ ap (λ (o : Option Past). with_acts o b) e
     ∙ ap (λ (t : List DiskAct). Some (record { start = past.start; trail = t })) (append_assoc past.trail a b)
-
--- nothing was written yet
-pub row_none : (told : Option Past) (first : ℕ) → WritesRow first 0 [] told told
-row_none told first = record { pages = []; size = refl; acts = acts_none told }
 
 -- one act more behind the row
 pub row_then : (first count : ℕ) (others : List DiskAct) (act : DiskAct) (old mid new : Option Past) → WritesRow first count others old mid → new ≡ with_act mid act → WritesRow first count (others ++ act ∷ []) old new

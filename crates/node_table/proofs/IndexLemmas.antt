@@ -1,14 +1,14 @@
 -- The places of entries, and the index that has them.
 use Rattle.std.proofs.Common.{◌≡◌, ◌≢◌, ℕ, suc, ◌+◌, ◌-◌, ◌<◌, ◌≤◌, Bool, true, false, cond, List, [], ◌∷◌, ◌++◌, length, take, get_or, All, AllPairs, slice_get, sym, refl, ◌∙◌, ap, subst, arith, Option, Some, None}
 use Rattle.std.proofs.lemmas.Bool.{false≢true}
-use Rattle.std.proofs.lemmas.List.{length-take-le, take_more, get_or-take, get_or_default}
+use Rattle.std.proofs.lemmas.List.{length-take-le, length_push, take_more, get_or-take, get_or_default, get_or_append_left, get_or_push}
 use Rattle.std.proofs.lemmas.List.Elements.{All-nil, All-cons, All-head, All-tail}
 use Rattle.std.proofs.lemmas.Option.{slice_get-get_or}
 use Rattle.pkg_names.specs.declared.root.Root.{Root}
 use Rattle.pkg_names.specs.Root.{root_eq}
 use Rattle.pkg_names.proofs.Roots.{root_eq-true, root_eq-same}
 use Rattle.node_table.specs.declared.entry.Entry.{Entry}
-use Rattle.node_table.specs.Entries.{entry_of}
+use Rattle.node_table.specs.Entries.{entry_of, without, with_added}
 use Rattle.node_table.specs.Steps.{place_from}
 
 -- the place with one entry more, which has place m
@@ -126,3 +126,26 @@ placed_next entries i entry old new root lt at distinct is put =
     let long : length front ≡ i = length-take-le i entries (omega (arith, lt)) in
     placed front entry old new root (new_next entries i entry lt at distinct) is (put ∙ ap (λ (n : ℕ). cond (root_eq entry.root root) (Some n) old) (sym long))
     ∙ ap (λ (es : List Entry). place_from 0 es root) (sym (take_more entries i entry lt ∙ ap (λ (e : Entry). front ++ e ∷ []) (sym at)))
+
+-- where no root goes, all entries stay
+none_go : (gone : List Root) (entries : List Entry) → length gone ≡ 0 → without gone entries ≡ entries
+none_go [] [] none = refl
+none_go [] (x ∷ entries) none = ap (λ (l : List Entry). x ∷ l) (none_go [] entries none)
+none_go (r ∷ gone) entries none = absurd (omega (arith, none))
+
+pub none_comes : (add : Option Entry) (gone : List Root) (entries : List Entry) → length gone ≡ 0 → add ≡ None → with_added add (without gone entries) ≡ entries
+none_comes add gone entries none is = ap (λ (o : Option Entry). with_added o (without gone entries)) is ∙ none_go gone entries none
+
+pub one_comes : (add : Option Entry) (entry : Entry) (gone : List Root) (entries : List Entry) → length gone ≡ 0 → add ≡ Some entry → with_added add (without gone entries) ≡ entries ++ entry ∷ []
+one_comes add entry gone entries none is =
+    ap (λ (o : Option Entry). with_added o (without gone entries)) is ∙ ap (λ (l : List Entry). l ++ entry ∷ []) (none_go gone entries none)
+
+-- the root of the last of entries whose roots differ is new
+pub new_last : (entries : List Entry) (entry : Entry) → AllPairs (λ a b. a.root ≢ b.root) (entries ++ entry ∷ []) → place_from 0 entries entry.root ≡ None
+new_last entries entry distinct =
+    place_none 0 entries entry.root (λ k d below.
+    let n = length entries in
+    let all = entries ++ entry ∷ [] in
+    let lt : n < length all = omega (arith, length_push entries entry) in
+    subst (λ (e : Entry). e.root ≢ entry.root) (get_or_append_left entries (entry ∷ []) d k below)
+    (subst (λ (e : Entry). (get_or all k d).root ≢ e.root) (get_or_push entries entry d n refl) (distinct k n d below lt)))

@@ -105,6 +105,7 @@ pub record IsTable
   pub sheets : AreSheets g rows.items links.items
   pub capacity : vec_capacity entries ≡ g.blobs
   pub index : IsIndex places entries.items
+  pub left : g.blobs ≤ length entries.items + spare places
   pub room : g.blobs ≤ hash_map_len places + spare places
 
 -- The first rows are those of these entries, the links make their chains, and no other row is used.

@@ -115,6 +115,8 @@ pub(crate) fn judge(
     ensures judged { (g : GeometryOf) → AreSheets g rows.now links.now
         → IfOk result (Judges g rows.now links.now entries.new.items) }
     ensures index { IfOk result (λ bad. IfNone bad (IsIndex index.new entries.new.items)) }
+    ensures left { IfOk result (λ bad. IfNone bad
+        (length rows.now ≤ length entries.new.items + spare index.new)) }
     ensures room { IfOk result (λ bad. IfNone bad
         (length rows.now ≤ hash_map_len index.new + spare index.new)) }
     ensures capacity { vec_capacity entries.new ≡ vec_capacity entries.old }

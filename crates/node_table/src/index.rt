@@ -62,6 +62,7 @@ pub(crate) fn fill_index(index: &mut HashMap<Root, u32>, entries: &[Entry])
     requires small { length entries.now < 2 ^ 32 }
     requires distinct { AllPairs (λ a b. a.root ≢ b.root) entries.now }
     ensures index { IsIndex index.new entries.now }
+    ensures left { hash_map_len index.old + spare index.old ≤ length entries.now + spare index.new }
     ensures room { hash_map_len index.old + spare index.old ≤ hash_map_len index.new + spare index.new }
 {
     index.clear();
@@ -100,8 +101,8 @@ pub(crate) fn remove(entries: &mut Vec<Entry>, gone: &[Root])
     entries.retain(|entry| !is_among(gone, &entry.root));
 }
 
-/// Takes the entries of these roots away, puts an entry last, and makes the index anew.
-pub(crate) fn change(
+// Takes the entries of these roots away, puts an entry last, and makes the index anew.
+fn change_all(
     entries: &mut Vec<Entry>,
     index: &mut HashMap<Root, u32>,
     add: Option<Entry>,
@@ -115,6 +116,7 @@ pub(crate) fn change(
     requires spare { vec_capacity entries.old ≤ hash_map_len index.old + spare index.old }
     ensures items { entries.new.items ≡ with_added add (without gone.now entries.old.items) }
     ensures index { IsIndex index.new entries.new.items }
+    ensures left { vec_capacity entries.old ≤ length entries.new.items + spare index.new }
     ensures capacity { vec_capacity entries.new ≡ vec_capacity entries.old }
     ensures room { hash_map_len index.old + spare index.old
         ≤ hash_map_len index.new + spare index.new }
@@ -124,4 +126,34 @@ pub(crate) fn change(
         entries.push_reserved(entry);
     }
     fill_index(index, entries);
+}
+
+/// Takes the entries of these roots away, and puts an entry last. The index is made anew only where there
+/// are roots to go.
+pub(crate) fn change(
+    entries: &mut Vec<Entry>,
+    index: &mut HashMap<Root, u32>,
+    add: Option<Entry>,
+    gone: &[Root],
+)
+    requires index { IsIndex index.old entries.old.items }
+    requires left { vec_capacity entries.old ≤ length entries.old.items + spare index.old }
+    requires room { length (with_added add (without gone.now entries.old.items))
+        ≤ vec_capacity entries.old }
+    requires distinct { AllPairs (λ a b. a.root ≢ b.root)
+        (with_added add (without gone.now entries.old.items)) }
+    requires small { vec_capacity entries.old < 2 ^ 32 }
+    requires spare { vec_capacity entries.old ≤ hash_map_len index.old + spare index.old }
+    ensures items { entries.new.items ≡ with_added add (without gone.now entries.old.items) }
+    ensures index { IsIndex index.new entries.new.items }
+    ensures left { vec_capacity entries.old ≤ length entries.new.items + spare index.new }
+    ensures capacity { vec_capacity entries.new ≡ vec_capacity entries.old }
+    ensures room { hash_map_len index.old + spare index.old
+        ≤ hash_map_len index.new + spare index.new }
+{
+    if !gone.is_empty() {
+        change_all(entries, index, add, gone);
+    } else if let Some(entry) = add {
+        let _ = put_last(index, entries, entry);
+    }
 }

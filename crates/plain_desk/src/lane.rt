@@ -53,8 +53,7 @@ impl<'a> Lane<'a> {
         ensures others { LeavesOthers self.now.number (take self.now.began self.now.store.now.history)
             self.now.store.now.history }
         ensures began { self.now.began ≤ length self.now.store.now.history }
-    {
-    }
+    {}
 }
 
 impl<'a> Desk for Lane<'a> {

@@ -30,12 +30,14 @@ invariant_of-result g c =
     let sheets = sheets_of geometry rows links c.in-Ok-Some.field-0 c.in-Ok-Some.second c.in-Ok-Some.field-0-is c.in-Ok-Some.ensures.sheets in
     let laid = judged geometry c.deref.result.now rows c.deref-2.result.now links c.judge.new.entries.items c.in-Ok-None-judge.field-0 None c.deref.ensures.value c.deref-2.ensures.value c.in-Ok-None-judge.field-0-is sheets c.in-Ok-None-judge.ensures.judged in
     let enough = subst (λ (o : Option ℕ). IfNone o (length c.deref.result.now ≤ hash_map_len c.judge.new.index + spare c.judge.new.index)) c.in-Ok-None-judge.field-0-is c.in-Ok-None-judge.ensures.room in
+    let left = subst (λ (o : Option ℕ). IfNone o (length c.deref.result.now ≤ length c.judge.new.entries.items + spare c.judge.new.index)) c.in-Ok-None-judge.field-0-is c.in-Ok-None-judge.ensures.left in
     record {
       limits = c.requires.limits;
       sound = laid.listed.sound;
       sheets = sheets;
       capacity = c.judge.ensures.capacity ∙ c.in-Ok.ensures.entry_room;
       index = subst (λ (o : Option ℕ). IfNone o (IsIndex c.judge.new.index c.judge.new.entries.items)) c.in-Ok-None-judge.field-0-is c.in-Ok-None-judge.ensures.index;
+      left = omega (arith, left, ap length c.deref.ensures.value, sheets.row_count);
       room = omega (arith, enough, ap length c.deref.ensures.value, sheets.row_count);
     }
 
