@@ -1,0 +1,4 @@
+mod Histories
+mod Resting
+mod Turns
+mod Scripts
