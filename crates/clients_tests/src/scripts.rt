@@ -1,53 +1,43 @@
-//! Scripts of one lane or of several, each by its printed history. The store runs a system of an empty list.
-
-ghost use Rattle.std.specs.Prelude.{◌≡◌, None, All};
-ghost use Rattle.script_lang.specs.declared.request.Request.{Request as RequestOf};
-ghost use Rattle.store_model.specs.Holding.{held};
-ghost use Rattle.store_model.specs.History.{of_lane};
-ghost use Rattle.script_lang.specs.Servable.{IsServable};
-ghost use Rattle.lane_server.specs.Serving.{asks_of};
+//! Scripts of one lane or of two, each by its printed history, at the store that a run begins with.
 
 use crate::resolves::{ends, example};
 use crate::shop::{Shop, with_roots};
-use crate::stores::base_store;
 use crate::updates::shop_of_update;
-use lane_server::serve_lane;
 use pkg_merkle::root_of;
 use pkg_names::{Bytes, Root};
-use plain_desk::{Lane, Store};
 use repo_source::MemRepo;
-use script_lang::{Request, read_script, text_of};
+use script_lang::{read_script, scripts_can_be_served, text_of};
+use script_server::serve_script;
 use std::alloc::{AllocError, Global};
 use std::sync::Wait;
 use std::test::Fail;
 
-// Serves the requests of one lane.
-fn serve_on<W: Wait>(
-    rt: &W,
-    alloc: Global,
-    store: &mut Store,
-    repo: &mut MemRepo,
-    requests: &[Request],
-    lane: u32,
-) -> Result<(), AllocError>
-    requires servable { All IsServable (asks_of lane requests.now) }
-    requires free { (held (of_lane lane store.old.history)).claim ≡ None }
-{
-    let mut desk = Lane::make(store, lane);
-    serve_lane(rt, alloc, &mut desk, repo, requests, lane)
+// A repository for each of so many lanes: the shop for lane 1, and an empty one for each other.
+fn repos_of(alloc: Global, shop: Shop, lanes: u32) -> Result<Vec<MemRepo>, AllocError> {
+    let mut repos = Vec::new(alloc);
+    repos.push(shop.into_repo(Vec::new(alloc)))?;
+    for _ in 1..lanes {
+        repos.push(Shop::new(alloc).into_repo(Vec::new(alloc)))?;
+    }
+    Ok(repos)
 }
 
-// The history of a script whose lanes are served one after the other, all from this shop.
+// The history of a script, lane 1 from this shop.
 fn history_of<W: Wait>(rt: &W, alloc: Global, shop: Shop, script: &[u8]) -> Result<Bytes, Fail> {
-    let mut store = base_store(alloc)?;
-    let mut repo = shop.into_repo(Vec::new(alloc));
     let Ok(script) = read_script(alloc, script) else {
         return Err(Fail::new("no script"));
     };
-    for lane in 1..script.lanes() + 1 {
-        serve_on(rt, alloc, &mut store, &mut repo, script.requests(), lane)?;
+    let lanes = script.lanes();
+    let mut repos = repos_of(alloc, shop, lanes)?;
+    if repos.len() < lanes as usize {
+        return Err(Fail::new("few repositories"));
     }
-    Ok(text_of(alloc, &store.into_history())?)
+    scripts_can_be_served();
+    let (history, starved) = serve_script(rt, alloc, &mut repos, script.requests(), lanes)?;
+    if starved {
+        return Err(Fail::new("no memory"));
+    }
+    Ok(text_of(alloc, &history)?)
 }
 
 #[test]
@@ -191,9 +181,13 @@ fn an_update_twice(rt: HostRuntime) -> Result<(), Fail> {
 
 // These bytes stand in the text.
 fn has(text: &Bytes, part: &[u8]) -> bool {
-    text.as_slice()
-        .windows(part.len())
-        .any(|window| window == part)
+    let text = text.as_slice();
+    for start in 0..text.len() {
+        if text[start..].starts_with(part) {
+            return true;
+        }
+    }
+    false
 }
 
 // Requests of two lanes stand mixed: each lane's are served in their order, and names are the lane's own.
