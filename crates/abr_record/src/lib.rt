@@ -15,7 +15,7 @@ pub use bytes::{decode, encode};
 pub use laws::{
     boots_take_tries, changes_are_seen, marks_decide_boots, settling_is_unique, which_slot_boots,
 };
-pub use marks::{commit, initial, mark_active, mark_unbootable};
+pub use marks::{commit, factory, initial, mark_active, mark_unbootable};
 pub use settling::{Settled, settles};
 
 /// A slot that can boot. `R` is recovery.

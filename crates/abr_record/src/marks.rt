@@ -1,6 +1,7 @@
-//! The initial record, and the marks that a store sets.
+//! The records to begin with, and the marks that a store sets.
 
 ghost use Rattle.std.specs.Prelude.{◌≡◌, ◌≢◌, ◌==◌, ◌&&◌};
+ghost use Rattle.abr_record.specs.Boot.{factory_record};
 ghost use Rattle.abr_record.specs.Marks.{active_slot, unbootable_slot, lowered, committed_slot, active_record, unbootable_record, committed_record, initial_record};
 
 use crate::{Record, Slot, SlotRecord};
@@ -28,6 +29,21 @@ pub fn initial() -> Record
             tries: 7,
             successful: false,
         },
+        one_shot: 0,
+    }
+}
+
+/// The record that a factory writes: A has succeeded, and B can't be booted.
+pub fn factory() -> Record
+    ensures { result ≡ factory_record }
+{
+    Record {
+        a: SlotRecord {
+            priority: 15,
+            tries: 0,
+            successful: true,
+        },
+        b: UNBOOTABLE,
         one_shot: 0,
     }
 }

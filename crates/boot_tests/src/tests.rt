@@ -1,6 +1,6 @@
 use crate::damaged::DamagedLook;
 use crate::systems::{ALL, BASE_FILE, FILE, System, Wrong, system_of};
-use abr_record::{Record, Slot, SlotRecord, initial};
+use abr_record::{Record, Slot, factory, initial};
 use boot_core::{BootStep, WholeFault, boot_step, whole};
 use image_layout::{ImageSum, Sys};
 use pkg_names::{Items, Root};
@@ -124,28 +124,15 @@ fn rotten_blobs(rt: HostRuntime) -> Result<(), Fail> {
 
 #[test]
 fn steps(rt: HostRuntime) -> Result<(), Fail> {
-    let factory = Record {
-        a: SlotRecord {
-            priority: 15,
-            tries: 0,
-            successful: true,
-        },
-        b: SlotRecord {
-            priority: 0,
-            tries: 0,
-            successful: false,
-        },
-        one_shot: 0,
-    };
     let once = Record {
         one_shot: 1,
-        ..factory
+        ..factory()
     };
     let mut tried = initial();
     tried.a.tries = 6;
     for (before, slot, next, write) in [
-        (factory, Slot::A, factory, false),
-        (once, Slot::R, factory, true),
+        (factory(), Slot::A, factory(), false),
+        (once, Slot::R, factory(), true),
         (initial(), Slot::A, tried, true),
     ] {
         assert_eq!(rt; boot_step(&before), BootStep { slot, next, write });

@@ -5,7 +5,7 @@ ghost use Rattle.store_model.specs.Holding.{held, nothing_held};
 ghost use Rattle.store_model.specs.History.{of_lane};
 
 use crate::shop::Shop;
-use abr_record::{Record, SlotRecord};
+use abr_record::factory;
 use image_layout::{Geometry, ImageSum, Sys};
 use pkg_merkle::BYTES_LIMIT;
 use pkg_names::{Bytes, Root};
@@ -15,23 +15,6 @@ use repo_source::RepoFile;
 use sha2::{Digest, Sha256};
 use std::alloc::Global;
 use std::test::Fail;
-
-/// The record that a factory writes: A has succeeded, and B can't be booted.
-pub fn factory() -> Record {
-    Record {
-        a: SlotRecord {
-            priority: 15,
-            tries: 0,
-            successful: true,
-        },
-        b: SlotRecord {
-            priority: 0,
-            tries: 0,
-            successful: false,
-        },
-        one_shot: 0,
-    }
-}
 
 pub fn sum_of(image: &[u8]) -> ImageSum {
     ImageSum {

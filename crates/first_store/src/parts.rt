@@ -1,39 +1,18 @@
 //! What lasts at the start.
 
 ghost use Rattle.std.specs.Prelude.{◌≡◌, [], IfOk};
-ghost use Rattle.abr_record.specs.Boot.{factory_record};
 ghost use Rattle.image_layout.specs.Sums.{image_sum};
 ghost use Rattle.pkg_merkle.specs.Merkle.{merkle_root};
 ghost use Rattle.first_store.specs.Bytes.{HasStartBytes};
 ghost use Rattle.first_store.specs.Start.{start_geometry, start_stock, start_system, system_meta};
 
 use crate::package::system_meta;
-use abr_record::{Record, SlotRecord};
 use image_layout::{Geometry, ImageSum, Sys};
 use pkg_merkle::root_of;
 use pkg_names::{Bytes, Root};
 use plain_stock::{Contents, Stock};
 use sha2::{Digest, Sha256};
 use std::alloc::{AllocError, Global};
-
-// The record that a factory writes: A has succeeded, and B can't be booted.
-pub(crate) fn factory() -> Record
-    ensures { result ≡ factory_record }
-{
-    Record {
-        a: SlotRecord {
-            priority: 15,
-            tries: 0,
-            successful: true,
-        },
-        b: SlotRecord {
-            priority: 0,
-            tries: 0,
-            successful: false,
-        },
-        one_shot: 0,
-    }
-}
 
 fn empty_sum() -> ImageSum
     ensures { result ≡ image_sum [] }

@@ -5,7 +5,8 @@ ghost use Rattle.store_model.specs.State.{Standing as StandingOf};
 ghost use Rattle.plain_desk.specs.Opening.{HasBooted};
 ghost use Rattle.first_store.specs.Start.{IsStart, start_geometry};
 
-use crate::parts::{blobs, factory, geometry, system};
+use crate::parts::{blobs, geometry, system};
+use abr_record::factory;
 use plain_desk::{Opening, Store};
 use plain_state::Standing;
 use std::alloc::{AllocError, Global};
