@@ -1,5 +1,5 @@
 -- The images in a text, or its first fault.
-use Rattle.std.specs.Prelude.{◌≡◌, ◌⊎◌, ℕ, List, [], ◌∷◌, codes, Option, Some, None, option_and_then, Result, Ok, Err, if◌then◌else◌}
+use Rattle.std.specs.Prelude.{◌≡◌, ◌⊎◌, ℕ, List, [], ◌∷◌, codes, Option, Some, None, option_and_then, is_some, true, IfSome, Result, Ok, Err, if◌then◌else◌}
 use Rattle.serde_json.specs.Data.{Data, Items}
 use Rattle.serde_json.specs.Find.{get, as_array}
 use Rattle.system_lists.specs.declared.document.DocumentFault.{DocumentFault}
@@ -84,6 +84,21 @@ pub record Brings (text : List ℕ) (images : Images) : Type 0 where
   pub vbmeta : image_at Fuchsia Vbmeta partitions ≡ images.vbmeta
   pub recovery_zbi : image_at Recovery Zbi partitions ≡ images.recovery_zbi
   pub recovery_vbmeta : image_at Recovery Vbmeta partitions ≡ images.recovery_vbmeta
+
+-- ---- each image is a file of a package
+
+-- its URL has a pin and a file
+abbrev pub NamesFile : ImageRef → Type 0
+NamesFile image = (is_some image.url.pin ≡ true) × (is_some image.url.file ≡ true)
+
+-- so it is of each of them
+pub record NameFiles (images : Images) : Type 0 where
+  pub zbi : NamesFile images.zbi
+  pub vbmeta : IfSome images.vbmeta NamesFile
+  pub recovery_zbi : IfSome images.recovery_zbi NamesFile
+  pub recovery_vbmeta : IfSome images.recovery_vbmeta NamesFile
+
+-- ---- faults
 
 -- the first entry with a fault has this one
 abbrev pub HasBadEntry : List ℕ → ListFault → Type 0

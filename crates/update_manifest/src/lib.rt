@@ -14,6 +14,6 @@ mod partition;
 pub use epoch::read_epoch;
 pub use image::{ImageRef, Images};
 pub use images::read_images;
-pub use laws::{manifests_have_a_first_fault, texts_bring_what_is_read};
+pub use laws::{images_name_files, manifests_have_a_first_fault, texts_bring_what_is_read};
 pub use packages::read_packages;
 pub use system_lists::{ManifestFault, ManifestFile, PinnedList};
