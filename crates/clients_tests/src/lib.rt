@@ -5,7 +5,6 @@
 mod resolves;
 #[cfg(test)]
 mod scripts;
-pub mod shop;
 #[cfg(test)]
 mod start;
 pub mod stores;

@@ -1,8 +1,8 @@
 //! Scripts of one lane or of two, each by its printed history, at the store that a run begins with.
 
 use crate::resolves::{ends, example};
-use crate::shop::{Shop, with_roots};
 use crate::updates::shop_of_update;
+use package_shop::{Shop, with_roots};
 use pkg_merkle::root_of;
 use pkg_names::{Bytes, Root};
 use repo_source::MemRepo;

@@ -4,9 +4,9 @@ ghost use Rattle.std.specs.Prelude.{◌≡◌, None, IfOk};
 ghost use Rattle.store_model.specs.Holding.{held, nothing_held};
 ghost use Rattle.store_model.specs.History.{of_lane};
 
-use crate::shop::Shop;
 use abr_record::factory;
 use image_layout::{Geometry, ImageSum, Sys};
+use package_shop::Shop;
 use pkg_merkle::BYTES_LIMIT;
 use pkg_names::{Bytes, Root};
 use plain_desk::{Opening, Store, StoredBlobs};

@@ -4,8 +4,8 @@ ghost use Rattle.std.specs.Prelude.{◌≡◌, None};
 ghost use Rattle.store_model.specs.Holding.{held};
 ghost use Rattle.store_model.specs.History.{of_lane};
 
-use crate::shop::{Shop, with_roots};
 use crate::stores::{base_store, sum_of};
+use package_shop::{Shop, with_roots};
 use package_url::{Url, read_url};
 use pkg_names::{Bytes, Root};
 use plain_desk::{Lane, Store};

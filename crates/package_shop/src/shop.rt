@@ -72,6 +72,11 @@ impl Shop {
         &self.files
     }
 
+    /// The packages that are listed, in the order in which they came.
+    pub fn listing(&self) -> &[Pinned] {
+        &self.listing
+    }
+
     /// Without the files under this root.
     pub fn without(mut self, root: Root) -> Shop {
         self.files.retain(|file| file.root != root);
