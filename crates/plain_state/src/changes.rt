@@ -1,7 +1,6 @@
 //! The state that each act leaves, but for its books.
 
-ghost use Rattle.std.specs.Prelude.{◌≡◌, ◌≢◌, ℕ, false, true, Some, None, IsSome, OnOk, OnErr};
-ghost use Rattle.std.specs.List.{All};
+ghost use Rattle.std.specs.Prelude.{◌≡◌, ◌≢◌, ℕ, All, false, true, Some, None, IsSome, OnOk, OnErr};
 ghost use Rattle.abr_record.specs.declared.Slot.TheVariants as slots;
 ghost use Rattle.fetch_queue.specs.Fetches.{is_claimed};
 ghost use Rattle.store_model.specs.declared.ends.BeginEnd.TheVariants as begun;
@@ -198,12 +197,5 @@ impl State {
         ensures { self.new ≡ next_commit self.old true }
     {
         self.abr = commit(&self.abr, self.running);
-    }
-
-    /// A write failed in the event of this number.
-    pub fn break_at(&mut self, number: u64)
-        ensures { self.new ≡ record self.old { broken = Some number } }
-    {
-        self.broken = Some(number);
     }
 }

@@ -1,7 +1,6 @@
 //! What lanes hold, and the opening of what has arrived.
 
-ghost use Rattle.std.specs.Prelude.{◌≡◌, ◌≢◌, ◌-◌, ◌^◌, [], min, IsSome, OnOk, OnErr};
-ghost use Rattle.std.specs.List.{All};
+ghost use Rattle.std.specs.Prelude.{◌≡◌, ◌≢◌, ◌-◌, ◌^◌, [], All, min, IsSome, OnOk, OnErr};
 ghost use Rattle.store_model.specs.declared.ends.WantEnd.TheVariants as wants;
 ghost use Rattle.store_model.specs.State.{arrival_of};
 ghost use Rattle.store_model.specs.Acts.Want.{next_want};

@@ -1,7 +1,6 @@
 //! Acts that change what the books have to know, each with what the event leaves of the books.
 
-ghost use Rattle.std.specs.Prelude.{◌≡◌, ◌≢◌, ◌&&◌, [], Bool, true, false, is_some, nat_le, Some, None, OnOk, OnErr};
-ghost use Rattle.std.specs.List.{All};
+ghost use Rattle.std.specs.Prelude.{◌≡◌, ◌≢◌, ◌&&◌, [], All, Bool, true, false, is_some, nat_le, Some, None, OnOk, OnErr};
 ghost use Rattle.open_tracker.specs.Directories.{root_of};
 ghost use Rattle.package_book.specs.Books.Meta.{Long};
 ghost use Rattle.store_model.specs.declared.ends.BeginEnd.TheVariants as begun;

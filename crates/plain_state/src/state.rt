@@ -1,12 +1,11 @@
 //! The state, and what it answers.
 
-ghost use Rattle.std.specs.Prelude.{◌≡◌, ◌==◌, not, find, None, is_some, option_and_then, option_copied, if◌then◌else◌};
+ghost use Rattle.std.specs.Prelude.{◌≡◌, ◌==◌, not, find, None, is_some, option_and_then, option_copied, option_map, if◌then◌else◌};
 ghost use Rattle.open_tracker.specs.Directories.{root_of};
 ghost use Rattle.package_indexes.specs.declared.Arriving.{Arriving as ArrivingOf};
 ghost use Rattle.package_indexes.specs.Sets.{arriving_with};
 ghost use Rattle.package_indexes.specs.Indexes.{root_at};
-ghost use Rattle.std.specs.Option.{option_map};
-ghost use Rattle.store_model.specs.State.{Arrival as ArrivalOf, opened, stored_len, is_stored, arrival_of, is_successful, is_other_bootable, is_committed, is_pending, running_epoch, sys_of, other_slot};
+ghost use Rattle.store_model.specs.State.{Arrival as ArrivalOf, durable, opened, stored_len, is_stored, arrival_of, is_successful, is_other_bootable, is_committed, is_pending, running_epoch, sys_of, other_slot};
 ghost use Rattle.store_model.specs.Packages.{known_fault, is_complete};
 ghost use Rattle.package_book.specs.Names.{names};
 ghost use Rattle.store_model.specs.Acts.Begin.{begin_answer, has_to_read};
@@ -126,6 +125,22 @@ impl State {
             staged: None,
             broken: None,
         }
+    }
+
+    /// What lasts of the state.
+    pub fn into_standing(self) -> Standing
+        ensures { result ≡ durable self }
+    {
+        let State {
+            stock,
+            abr,
+            a,
+            b,
+            ..
+        } = self;
+        let a = a.filter(|_| bootable(&abr.a));
+        let b = b.filter(|_| bootable(&abr.b));
+        Standing { stock, abr, a, b }
     }
 
     /// The length of a stored blob.
