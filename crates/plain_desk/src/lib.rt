@@ -13,6 +13,6 @@ mod store;
 mod stored;
 
 pub use lane::Lane;
-pub use opening::Opening;
+pub use opening::{Opening, Parts};
 pub use store::Store;
 pub use stored::StoredBlobs;

@@ -1,7 +1,8 @@
 //! The start of a store, and its end.
 
 ghost use Rattle.std.specs.Prelude.{◌≡◌, IfOk};
-ghost use Rattle.store_model.specs.History.{IsLegal};
+ghost use Rattle.store_model.specs.History.{IsLegal, after};
+ghost use Rattle.store_model.specs.State.{durable};
 ghost use Rattle.plain_stock.specs.Contents.{AreBytesOf};
 ghost use Rattle.plain_desk.specs.Opening.{Opens};
 
@@ -30,6 +31,15 @@ pub enum Opening {
     Missing { slot: Slot, root: Root },
     /// What is wrong with the slot's system.
     Faulty { slot: Slot, why: SystemFault },
+}
+
+/// What is left of a store at its end. The next one can open from what lasts, with the bytes of its blobs.
+#[derive(Drop)]
+pub struct Parts {
+    pub history: Vec<Event>,
+    pub standing: Standing,
+    pub contents: Contents,
+    pub images: Images,
 }
 
 impl Store {
@@ -67,5 +77,28 @@ impl Store {
         ensures legal { IsLegal self.origin self.history }
     {
         self.ledger.into_parts().0
+    }
+
+    /// The parts of a store at its end: its history, what lasts of it, and the images that were filled last.
+    pub fn into_parts(self) -> Parts
+        ensures history { result.history.items ≡ self.history }
+        ensures legal { IsLegal self.origin self.history }
+        ensures standing { result.standing ≡ durable (after self.origin self.history) }
+        ensures bytes { AreBytesOf result.contents result.standing.stock }
+        ensures images { result.images ≡ self.images }
+    {
+        let Store {
+            ledger,
+            contents,
+            images,
+            ..
+        } = self;
+        let (history, state) = ledger.into_parts();
+        Parts {
+            history,
+            standing: state.into_standing(),
+            contents,
+            images,
+        }
     }
 }
