@@ -1,6 +1,6 @@
 -- Each reply follows on its cause.
 use Rattle.std.proofs.Common.{inl, inr, ◌≡◌, ℕ, true, List, [], ◌∷◌, ◌++◌, length, Option, Some, None, Result, Ok, Err, refl, sym, ap, subst, ◌∙◌, append_assoc}
-use Rattle.std.specs.Prelude.{◌⊎◌}
+use Rattle.std.specs.Prelude.{◌⊎◌, is_some}
 use Rattle.std.proofs.lemmas.List.{append-nil}
 use Rattle.image_layout.specs.declared.ImageKind.{ImageKind}
 use Rattle.image_layout.specs.declared.Sys.{Sys}
@@ -48,6 +48,7 @@ use Rattle.system_updater.specs.Serving.{Point, Prior, next_file, closed, left, 
 use Rattle.system_updater.specs.Serving.Prior.{NothingRead, EpochRead, PackagesRead}
 use Rattle.system_updater.specs.Serving.Point.{Asking, Reading, Rejecting, Staging, Retaining, Fetching, Filling, Copying, Activating, Closing, Leaving, Ended}
 use Rattle.system_updater.specs.Causes.{IsBadRead, IsBroken, IsCause, HasCause}
+use Rattle.system_updater.proofs.Named.{HasFile, AreNamed}
 
 -- the reply of a point from which only ends come
 abbrev end_of : Point → Option UpdateReply
@@ -91,9 +92,18 @@ cause_behind reply front run has = record {
 
 -- ---- what a leg comes to
 
--- a point that no manifest is to be rejected at, nor behind it
+-- whatever is read as images names files
+abbrev Names : Type 0
+Names = (bytes : List ℕ) (images : Images) → images_in bytes ≡ Ok images → AreNamed (tasks_of images)
+
+-- A point that no manifest is to be rejected at, nor behind it. The images that are still to be filled name files.
 abbrev IsPlain : Point → Type 0
 IsPlain (Rejecting dir file why) = ⊥
+IsPlain (Staging dir plan) = AreNamed (tasks_of plan.images)
+IsPlain (Retaining dir plan) = AreNamed (tasks_of plan.images)
+IsPlain (Fetching dir plan later) = AreNamed (tasks_of plan.images)
+IsPlain (Filling dir plan later) = AreNamed later
+IsPlain (Copying dir plan task from later) = HasFile task.image.url × AreNamed later
 IsPlain (Closing dir next) = IsPlain next
 IsPlain (Leaving next) = IsPlain next
 IsPlain point = Unit {0}
@@ -101,9 +111,7 @@ IsPlain point = Unit {0}
 -- what was read before a point; only of a manifest that is to be rejected it counts
 abbrev IsReady : Point → List Numbered → Type 0
 IsReady (Rejecting dir file why) read = IsBadRead file why read
-IsReady (Closing dir next) read = (read ≡ []) × IsPlain next
-IsReady (Leaving next) read = (read ≡ []) × IsPlain next
-IsReady point read = read ≡ []
+IsReady point read = (read ≡ []) × IsPlain point
 
 -- it goes on, with what was read
 record GoesOn (x : List Numbered) (next : Point) : Type 0 where
@@ -137,26 +145,26 @@ broken_by call broken number e is = elim is [ inl refused ↦ inl (call, refused
 
 -- ---- manifests
 
-module _ (x : List Numbered) (dir : Dir) where
+module _ (names : Names) (x : List Numbered) (dir : Dir) where
   bad : (file : ManifestFile) (why : ManifestFault) → IsBadRead file why x → Comes x (Rejecting dir file why)
   bad file why is = inl (record { front = []; read = x; split = refl; ready = is; open_ = refl })
 
   found_comes : (prior : Prior) (bytes : List ℕ) → IsOne (λ number e. Acts (acts.Read dir.number (name_of (next_file prior)) (reads.Got bytes)) e) x → Comes x (judged dir prior (Some bytes))
   found_comes NothingRead bytes one = by_epoch (epoch_in bytes) refl where
     by_epoch : (found : Result ℕ ManifestFault) → epoch_in bytes ≡ found → Comes x (with_epoch dir found)
-    by_epoch (Ok epoch) said = goes_on x (Reading dir (EpochRead epoch)) refl refl
+    by_epoch (Ok epoch) said = goes_on x (Reading dir (EpochRead epoch)) (refl, tt) refl
     by_epoch (Err why) said = bad files.Epoch why (record { dir = dir.number; reply = reads.Got bytes; is = one; bad = said })
   found_comes (EpochRead epoch) bytes one = by_packages (packages_in bytes) refl where
     by_packages : (found : Result (List Pinned) ManifestFault) → packages_in bytes ≡ found → Comes x (with_packages dir epoch found)
-    by_packages (Ok packages) said = goes_on x (Reading dir (PackagesRead epoch packages)) refl refl
+    by_packages (Ok packages) said = goes_on x (Reading dir (PackagesRead epoch packages)) (refl, tt) refl
     by_packages (Err why) said = bad files.Packages why (record { dir = dir.number; reply = reads.Got bytes; is = one; bad = said })
   found_comes (PackagesRead epoch packages) bytes one = by_images (images_in bytes) refl where
     by_images : (found : Result Images ManifestFault) → images_in bytes ≡ found → Comes x (with_images dir epoch packages found)
-    by_images (Ok images) said = goes_on x (Staging dir (record { epoch = epoch; packages = packages; images = images })) refl refl
+    by_images (Ok images) said = goes_on x (Staging dir (record { epoch = epoch; packages = packages; images = images })) (refl, names bytes images said) refl
     by_images (Err why) said = bad files.Images why (record { dir = dir.number; reply = reads.Got bytes; is = one; bad = said })
 
   missing_comes : (prior : Prior) → IsOne (λ number e. Acts (acts.Read dir.number (name_of (next_file prior)) reads.NoFile) e) x → Comes x (judged dir prior None)
-  missing_comes NothingRead one = goes_on x (Reading dir (EpochRead 0)) refl refl
+  missing_comes NothingRead one = goes_on x (Reading dir (EpochRead 0)) (refl, tt) refl
   missing_comes (EpochRead epoch) one = bad files.Packages faults.Missing (record { dir = dir.number; reply = reads.NoFile; is = one; bad = refl })
   missing_comes (PackagesRead epoch packages) one = bad files.Images faults.Missing (record { dir = dir.number; reply = reads.NoFile; is = one; bad = refl })
 
@@ -170,26 +178,27 @@ module _ (x : List Numbered) (dir : Dir) where
   read_comes prior (read.Broken broken) one = stops x _ (replies.Broken broken) refl (one.0, one.1, inl (calls.Read dir.number (name_of (next_file prior)), one.2))
   read_comes prior read.NoMemory one = stops x _ replies.NoMemory refl tt
 
-  stage_comes : (plan : Plan) (reply : StageReply) → IsOne (IsStaged plan.epoch reply) x → Comes x (after_stage dir plan reply)
-  stage_comes plan (stage.Turn slot) one = goes_on x (Retaining dir plan) refl refl
-  stage_comes plan stage.InRecovery one = stops x _ replies.InRecovery refl (one.0, one.1, (plan.epoch, one.2))
-  stage_comes plan (stage.Busy lane) one = stops x _ (replies.Busy lane) refl (one.0, one.1, (plan.epoch, one.2))
-  stage_comes plan stage.NotCommitted one = stops x _ replies.NotCommitted refl (one.0, one.1, (plan.epoch, one.2))
-  stage_comes plan (stage.Older have) one = stops x _ (replies.Epoch have plan.epoch) refl (one.0, one.1, one.2)
-  stage_comes plan (stage.Broken broken) one = stops x _ (replies.Broken broken) refl (one.0, one.1, broken_by (calls.Stage plan.epoch) broken one.0.number one.0.event (elim one.2 as (λ _. Refuses (calls.Stage plan.epoch) broken one.0.event ⊎ ((broken ≡ one.0.number) × (one.0.event.broke ≡ true))) [ inl refused ↦ inl refused | inr failed ↦ inr (failed.1.0, failed.1.2) ]))
-  stage_comes plan stage.NoMemory one = stops x _ replies.NoMemory refl tt
+module _ (x : List Numbered) (dir : Dir) where
+  stage_comes : (plan : Plan) (reply : StageReply) → AreNamed (tasks_of plan.images) → IsOne (IsStaged plan.epoch reply) x → Comes x (after_stage dir plan reply)
+  stage_comes plan (stage.Turn slot) named one = goes_on x (Retaining dir plan) (refl, named) refl
+  stage_comes plan stage.InRecovery named one = stops x _ replies.InRecovery refl (one.0, one.1, (plan.epoch, one.2))
+  stage_comes plan (stage.Busy lane) named one = stops x _ (replies.Busy lane) refl (one.0, one.1, (plan.epoch, one.2))
+  stage_comes plan stage.NotCommitted named one = stops x _ replies.NotCommitted refl (one.0, one.1, (plan.epoch, one.2))
+  stage_comes plan (stage.Older have) named one = stops x _ (replies.Epoch have plan.epoch) refl (one.0, one.1, one.2)
+  stage_comes plan (stage.Broken broken) named one = stops x _ (replies.Broken broken) refl (one.0, one.1, broken_by (calls.Stage plan.epoch) broken one.0.number one.0.event (elim one.2 as (λ _. Refuses (calls.Stage plan.epoch) broken one.0.event ⊎ ((broken ≡ one.0.number) × (one.0.event.broke ≡ true))) [ inl refused ↦ inl refused | inr failed ↦ inr (failed.1.0, failed.1.2) ]))
+  stage_comes plan stage.NoMemory named one = stops x _ replies.NoMemory refl tt
 
-  retain_comes : (plan : Plan) (roots : List Root) (reply : RetainReply) → IsOne (IsRetained roots (length roots) reply) x → Comes x (after_retain dir plan reply)
-  retain_comes plan roots retain.Done one = goes_on x (Fetching dir plan plan.packages) refl refl
-  retain_comes plan roots retain.SlotInUse one = stops x _ replies.SlotInUse refl (one.0, one.1, (roots, one.2))
-  retain_comes plan roots retain.DiskRead one = stops x _ replies.DiskRead refl (one.0, one.1, inr (inl (roots, one.2)))
-  retain_comes plan roots (retain.Rotten root got) one = stops x _ (replies.Rotten root got) refl (one.0, one.1, inr (inl (roots, one.2)))
-  retain_comes plan roots (retain.Broken broken) one = stops x _ (replies.Broken broken) refl (one.0, one.1, inl (calls.Retain (length roots), one.2))
-  retain_comes plan roots retain.NoMemory one = stops x _ replies.NoMemory refl tt
+  retain_comes : (plan : Plan) (roots : List Root) (reply : RetainReply) → AreNamed (tasks_of plan.images) → IsOne (IsRetained roots (length roots) reply) x → Comes x (after_retain dir plan reply)
+  retain_comes plan roots retain.Done named one = goes_on x (Fetching dir plan plan.packages) (refl, named) refl
+  retain_comes plan roots retain.SlotInUse named one = stops x _ replies.SlotInUse refl (one.0, one.1, (roots, one.2))
+  retain_comes plan roots retain.DiskRead named one = stops x _ replies.DiskRead refl (one.0, one.1, inr (inl (roots, one.2)))
+  retain_comes plan roots (retain.Rotten root got) named one = stops x _ (replies.Rotten root got) refl (one.0, one.1, inr (inl (roots, one.2)))
+  retain_comes plan roots (retain.Broken broken) named one = stops x _ (replies.Broken broken) refl (one.0, one.1, inl (calls.Retain (length roots), one.2))
+  retain_comes plan roots retain.NoMemory named one = stops x _ replies.NoMemory refl tt
 
   copy_comes : (kind : ImageKind) (from : Dir) (file : List ℕ) (reply : CopyReply) → IsOne (IsCopied kind from.number file reply) x → Comes x (image_left dir from (copy_refusal kind reply))
   copy_comes kind from file copy.BadDir one = stops x _ replies.BadDir refl (one.0, one.1, inr (kind, from.number, file, one.2))
-  copy_comes kind from file copy.NoFile one = stops x _ (replies.NoFile kind) refl (inr (one.0, one.1, (from.number, file, one.2)))
+  copy_comes kind from file copy.NoFile one = stops x _ (replies.NoFile kind) refl (one.0, one.1, (from.number, file, one.2))
   copy_comes kind from file (copy.TooLarge len room) one = stops x _ (replies.TooLarge kind len room) refl (one.0, one.1, (from.number, file, one.2))
   copy_comes kind from file copy.DiskRead one = stops x _ replies.DiskRead refl (one.0, one.1, inr (inr (inl (kind, from.number, file, one.2))))
   copy_comes kind from file (copy.More have) one = stops x _ replies.NoMemory refl tt
@@ -198,7 +207,7 @@ module _ (x : List Numbered) (dir : Dir) where
   copy_comes kind from file copy.NoMemory one = stops x _ replies.NoMemory refl tt
 
   seal_comes : (sys : Sys) (reply : SealReply) → IsOne (IsSealed sys reply) x → Comes x (after_seal dir sys reply)
-  seal_comes sys seal.Sealed one = goes_on x (Activating dir sys) refl refl
+  seal_comes sys seal.Sealed one = goes_on x (Activating dir sys) (refl, tt) refl
   seal_comes sys (seal.Differs image got) one = stops x _ (replies.Differs image got) refl (one.0, one.1, (sys, one.2))
   seal_comes sys (seal.Broken broken) one = stops x _ (replies.Broken broken) refl (one.0, one.1, broken_by calls.Seal broken one.0.number one.0.event (elim one.2 as (λ _. Refuses calls.Seal broken one.0.event ⊎ ((broken ≡ one.0.number) × (one.0.event.broke ≡ true))) [ inl refused ↦ inl refused | inr failed ↦ inr (failed.0, failed.2) ]))
   seal_comes sys seal.NoMemory one = stops x _ replies.NoMemory refl tt
@@ -235,10 +244,10 @@ module _ (x : List Numbered) (path : NameAndVariant) (pin : Option Root) (opened
   resolve_comes (resolved.Broken number) serves = stops x (ended (replies.Resolve (resolved.Broken number))) (replies.Resolve (resolved.Broken number)) (over (replies.Resolve (resolved.Broken number))) (path, pin, serves)
   resolve_comes resolved.NoMemory serves = stops x (ended replies.NoMemory) replies.NoMemory (over replies.NoMemory) tt
 
-copies_come : (x : List Numbered) (dir : Dir) (plan : Plan) (task : Task) (from : Dir) (later : List Task) (file : Option (List ℕ)) (next : Point) → Copies dir plan task from later file x next → Comes x next
-copies_come x dir plan task from later None next passes = at_point x (image_left dir from (replies.NoFile task.kind)) next passes.1 (stops x _ (replies.NoFile task.kind) refl (inl passes.0))
-copies_come x dir plan task from later (Some file) next copied = elim copied [
-  | inl passes ↦ at_point x (Closing from (Filling dir plan later)) next passes.1 (goes_on x (Closing from (Filling dir plan later)) (refl, tt) refl)
+copies_come : (x : List Numbered) (dir : Dir) (plan : Plan) (task : Task) (from : Dir) (later : List Task) (file : Option (List ℕ)) (next : Point) → is_some file ≡ true → AreNamed later → Copies dir plan task from later file x next → Comes x next
+copies_come x dir plan task from later None next named others passes = absurd (cc named)
+copies_come x dir plan task from later (Some file) next named others copied = elim copied [
+  | inl passes ↦ at_point x (Closing from (Filling dir plan later)) next passes.1 (goes_on x (Closing from (Filling dir plan later)) (refl, others) refl)
   | inr rest ↦ elim rest [
     | inl called ↦ at_point x (image_left dir from (copy_refusal task.kind called.reply)) next called.leads (copy_comes x dir task.kind from file called.reply called.event)
     | inr cut ↦ at_point x (image_left dir from replies.NoMemory) next cut.1 (stops x _ replies.NoMemory refl tt)
@@ -254,57 +263,57 @@ cut_left : (x : List Numbered) (dir : Dir) (next : Point) → next ≡ left dir 
 cut_left x dir next is = at_point x (left dir replies.NoMemory) next is (stops x _ replies.NoMemory refl tt)
 
 ready_plain : (p : Point) → IsPlain p → IsReady p []
-ready_plain (Asking path pin) plain = refl
-ready_plain (Reading dir prior) plain = refl
+ready_plain (Asking path pin) plain = (refl, plain)
+ready_plain (Reading dir prior) plain = (refl, plain)
 ready_plain (Rejecting dir file why) plain = absurd plain
-ready_plain (Staging dir plan) plain = refl
-ready_plain (Retaining dir plan) plain = refl
-ready_plain (Fetching dir plan later) plain = refl
-ready_plain (Filling dir plan later) plain = refl
-ready_plain (Copying dir plan task from later) plain = refl
-ready_plain (Activating dir sys) plain = refl
+ready_plain (Staging dir plan) plain = (refl, plain)
+ready_plain (Retaining dir plan) plain = (refl, plain)
+ready_plain (Fetching dir plan later) plain = (refl, plain)
+ready_plain (Filling dir plan later) plain = (refl, plain)
+ready_plain (Copying dir plan task from later) plain = (refl, plain)
+ready_plain (Activating dir sys) plain = (refl, plain)
 ready_plain (Closing dir next) plain = (refl, plain)
 ready_plain (Leaving next) plain = (refl, plain)
-ready_plain (Ended reply) plain = refl
+ready_plain (Ended reply) plain = (refl, plain)
 
 on : (x : List Numbered) (after next : Point) → next ≡ after → IsPlain after → end_of after ≡ None → Comes x next
 on x after next is plain open_ = at_point x after next is (goes_on x after (ready_plain after plain) open_)
 
-step : (p : Point) (x : List Numbered) (next : Point) → Follows p x next → end_of p ≡ None → IsPlain p → Comes x next
-step (Asking path pin) x next r open_ plain = at_point x (after_resolve (λ dir. Reading dir NothingRead) Ended r.reply) next r.leads (resolve_comes x path pin (λ dir. Reading dir NothingRead) Ended (λ dir. goes_on x (Reading dir NothingRead) refl refl) (λ reply. refl) r.reply r.serves)
-step (Reading dir prior) x next follows open_ plain = elim follows [
-  | inl called ↦ at_point x (after_read dir prior called.reply) next called.leads (read_comes x dir prior called.reply called.event)
+step : Names → (p : Point) (x : List Numbered) (next : Point) → Follows p x next → end_of p ≡ None → IsPlain p → Comes x next
+step names (Asking path pin) x next r open_ plain = at_point x (after_resolve (λ dir. Reading dir NothingRead) Ended r.reply) next r.leads (resolve_comes x path pin (λ dir. Reading dir NothingRead) Ended (λ dir. goes_on x (Reading dir NothingRead) (refl, tt) refl) (λ reply. refl) r.reply r.serves)
+step names (Reading dir prior) x next follows open_ plain = elim follows [
+  | inl called ↦ at_point x (after_read dir prior called.reply) next called.leads (read_comes names x dir prior called.reply called.event)
   | inr cut ↦ cut_closed x dir next cut.1
 ]
-step (Rejecting dir file why) x next follows open_ plain = absurd plain
-step (Staging dir plan) x next follows open_ plain = elim follows [
-  | inl called ↦ at_point x (after_stage dir plan called.reply) next called.leads (stage_comes x dir plan called.reply called.event)
+step names (Rejecting dir file why) x next follows open_ plain = absurd plain
+step names (Staging dir plan) x next follows open_ plain = elim follows [
+  | inl called ↦ at_point x (after_stage dir plan called.reply) next called.leads (stage_comes x dir plan called.reply plain called.event)
   | inr cut ↦ cut_closed x dir next cut.1
 ]
-step (Retaining dir plan) x next follows open_ plain = elim follows [
-  | inl called ↦ at_point x (after_retain dir plan called.reply) next called.leads (retain_comes x dir plan (roots_of plan.packages) called.reply called.event)
+step names (Retaining dir plan) x next follows open_ plain = elim follows [
+  | inl called ↦ at_point x (after_retain dir plan called.reply) next called.leads (retain_comes x dir plan (roots_of plan.packages) called.reply plain called.event)
   | inr cut ↦ cut_left x dir next cut.1
 ]
-step (Fetching dir plan []) x next follows open_ plain = at_point x (Filling dir plan (tasks_of plan.images)) next follows.1 (goes_on x (Filling dir plan (tasks_of plan.images)) refl refl)
-step (Fetching dir plan (pinned ∷ later)) x next follows open_ plain = elim follows [
+step names (Fetching dir plan []) x next follows open_ plain = at_point x (Filling dir plan (tasks_of plan.images)) next follows.1 (goes_on x (Filling dir plan (tasks_of plan.images)) (refl, plain) refl)
+step names (Fetching dir plan (pinned ∷ later)) x next follows open_ plain = elim follows [
   | inl r ↦ at_point x (after_resolve (λ from. Closing from (Fetching dir plan later)) (left dir) r.reply) next r.leads
-      (resolve_comes x pinned.path (Some pinned.root) (λ from. Closing from (Fetching dir plan later)) (left dir) (λ from. goes_on x (Closing from (Fetching dir plan later)) (refl, tt) refl) (λ reply. refl) r.reply r.serves)
+      (resolve_comes x pinned.path (Some pinned.root) (λ from. Closing from (Fetching dir plan later)) (left dir) (λ from. goes_on x (Closing from (Fetching dir plan later)) (refl, plain) refl) (λ reply. refl) r.reply r.serves)
   | inr cut ↦ cut_left x dir next cut.1
 ]
-step (Filling dir plan []) x next follows open_ plain = elim follows [
+step names (Filling dir plan []) x next follows open_ plain = elim follows [
   | inl called ↦ at_point x (after_seal dir (sys_of plan) called.reply) next called.leads (seal_comes x dir (sys_of plan) called.reply called.event)
   | inr cut ↦ cut_left x dir next cut.1
 ]
-step (Filling dir plan (task ∷ later)) x next r open_ plain = at_point x (after_resolve (λ from. Copying dir plan task from later) (left dir) r.reply) next r.leads
-    (resolve_comes x task.image.url.path task.image.url.pin (λ from. Copying dir plan task from later) (left dir) (λ from. goes_on x (Copying dir plan task from later) refl refl) (λ reply. refl) r.reply r.serves)
-step (Copying dir plan task from later) x next follows open_ plain = copies_come x dir plan task from later task.image.url.file next follows
-step (Activating dir sys) x next follows open_ plain = elim follows [
+step names (Filling dir plan (task ∷ later)) x next r open_ plain = at_point x (after_resolve (λ from. Copying dir plan task from later) (left dir) r.reply) next r.leads
+    (resolve_comes x task.image.url.path task.image.url.pin (λ from. Copying dir plan task from later) (left dir) (λ from. goes_on x (Copying dir plan task from later) (refl, plain) refl) (λ reply. refl) r.reply r.serves)
+step names (Copying dir plan task from later) x next follows open_ plain = copies_come x dir plan task from later task.image.url.file next plain.0 plain.1 follows
+step names (Activating dir sys) x next follows open_ plain = elim follows [
   | inl called ↦ at_point x (left dir (activation_reply called.reply)) next called.leads (activate_comes x dir called.reply called.event)
   | inr cut ↦ cut_left x dir next cut.1
 ]
-step (Closing dir after) x next follows open_ plain = on x after next follows.1 plain open_
-step (Leaving after) x next follows open_ plain = on x after next follows.1 plain open_
-step (Ended reply) x next follows open_ plain = absurd follows
+step names (Closing dir after) x next follows open_ plain = on x after next follows.1 plain open_
+step names (Leaving after) x next follows open_ plain = on x after next follows.1 plain open_
+step names (Ended reply) x next follows open_ plain = absurd follows
 
 -- ---- all legs
 
@@ -316,18 +325,18 @@ record IsBad (p : Point) (read : List Numbered) : Type 0 where
   bad : IsBadRead file why read
 
 split_ready : (p : Point) (read : List Numbered) → IsReady p read → (IsPlain p × (read ≡ [])) ⊎ IsBad p read
-split_ready (Asking path pin) read ready = inl (tt, ready)
-split_ready (Reading dir prior) read ready = inl (tt, ready)
+split_ready (Asking path pin) read ready = inl (ready.1, ready.0)
+split_ready (Reading dir prior) read ready = inl (ready.1, ready.0)
 split_ready (Rejecting dir file why) read ready = inr (record { dir = dir; file = file; why = why; is = refl; bad = ready })
-split_ready (Staging dir plan) read ready = inl (tt, ready)
-split_ready (Retaining dir plan) read ready = inl (tt, ready)
-split_ready (Fetching dir plan later) read ready = inl (tt, ready)
-split_ready (Filling dir plan later) read ready = inl (tt, ready)
-split_ready (Copying dir plan task from later) read ready = inl (tt, ready)
-split_ready (Activating dir sys) read ready = inl (tt, ready)
+split_ready (Staging dir plan) read ready = inl (ready.1, ready.0)
+split_ready (Retaining dir plan) read ready = inl (ready.1, ready.0)
+split_ready (Fetching dir plan later) read ready = inl (ready.1, ready.0)
+split_ready (Filling dir plan later) read ready = inl (ready.1, ready.0)
+split_ready (Copying dir plan task from later) read ready = inl (ready.1, ready.0)
+split_ready (Activating dir sys) read ready = inl (ready.1, ready.0)
 split_ready (Closing dir next) read ready = inl (ready.1, ready.0)
 split_ready (Leaving next) read ready = inl (ready.1, ready.0)
-split_ready (Ended reply) read ready = inl (tt, ready)
+split_ready (Ended reply) read ready = inl (ready.1, ready.0)
 
 has_same : (told reply : UpdateReply) (xs ys : List Numbered) → told ≡ reply → xs ≡ ys → HasCause told xs → HasCause reply ys
 has_same told reply xs ys same equal has = subst (λ (r : UpdateReply). HasCause r ys) same (subst (HasCause told) equal has)
@@ -348,12 +357,12 @@ rejected before leg rest dir file why next legs reply is follows leads = elim fo
       has_same replies.NoMemory reply (before ++ (leg ++ rest)) (before ++ (leg ++ rest)) same refl (cause_behind replies.NoMemory before (leg ++ rest) (cause_here replies.NoMemory leg rest tt))
 ]
 
-told_from : (legs : List (List Numbered)) (p : Point) (before : List Numbered) (reply : UpdateReply) → IsReady p before → end_of p ≡ None → Leads p legs (Ended reply) → HasCause reply (before ++ joined legs)
-told_from [] p before reply ready open_ leads = none_some _ reply (sym open_ ∙ ap end_of leads)
-told_from (leg ∷ legs) p before reply ready open_ leads = elim (split_ready p before ready) [
-  | inl plain ↦ elim (step p leg leads.0 leads.1 open_ plain.0) [
+told_from : Names → (legs : List (List Numbered)) (p : Point) (before : List Numbered) (reply : UpdateReply) → IsReady p before → end_of p ≡ None → Leads p legs (Ended reply) → HasCause reply (before ++ joined legs)
+told_from names [] p before reply ready open_ leads = none_some _ reply (sym open_ ∙ ap end_of leads)
+told_from names (leg ∷ legs) p before reply ready open_ leads = elim (split_ready p before ready) [
+  | inl plain ↦ elim (step names p leg leads.0 leads.1 open_ plain.0) [
     | inl goes ↦
-        let later = told_from legs leads.0 goes.read reply goes.ready goes.open_ leads.2 in
+        let later = told_from names legs leads.0 goes.read reply goes.ready goes.open_ leads.2 in
         has_same reply reply (goes.front ++ (goes.read ++ joined legs)) (before ++ (leg ++ joined legs)) refl
         (sym (append_assoc goes.front goes.read (joined legs)) ∙ ap (λ (es : List Numbered). es ++ joined legs) (sym goes.split) ∙ ap (λ (es : List Numbered). es ++ (leg ++ joined legs)) (sym plain.1))
         (cause_behind reply goes.front (goes.read ++ joined legs) later)
@@ -364,5 +373,5 @@ told_from (leg ∷ legs) p before reply ready open_ leads = elim (split_ready p 
   | inr bad ↦ rejected before leg (joined legs) bad.dir bad.file bad.why leads.0 legs reply bad.bad (subst (λ (q : Point). Follows q leg leads.0) bad.is leads.1) leads.2
 ]
 
-pub has_cause : (path : NameAndVariant) (pin : Option Root) (run : List Numbered) (reply : UpdateReply) → Serves path pin run reply → HasCause reply run
-has_cause path pin run reply serves = subst (HasCause reply) (sym serves.whole) (told_from serves.legs (Asking path pin) [] reply refl refl serves.leads)
+pub has_cause : Names → (path : NameAndVariant) (pin : Option Root) (run : List Numbered) (reply : UpdateReply) → Serves path pin run reply → HasCause reply run
+has_cause names path pin run reply serves = subst (HasCause reply) (sym serves.whole) (told_from names serves.legs (Asking path pin) [] reply (refl, tt) refl serves.leads)

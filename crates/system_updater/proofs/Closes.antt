@@ -32,7 +32,7 @@ use Rattle.system_updater.specs.Holding.{WithDir, WithStage}
 use Rattle.system_updater.proofs.Places.{without_last, root_last}
 
 -- the act is due where it came
-act_due : (old new : View) (IsIts : ℕ → Event → Type 0) (does : desk.Does old new IsIts) (act : Act) → Acts act does.event → IsActDue (after old.origin (old.seen ++ does.others)) old.lane act
+pub act_due : (old new : View) (IsIts : ℕ → Event → Type 0) (does : desk.Does old new IsIts) (act : Act) → Acts act does.event → IsActDue (after old.origin (old.seen ++ does.others)) old.lane act
 act_due old new IsIts does act is =
     let s = after old.origin (old.seen ++ does.others) in
     let number = length (old.seen ++ does.others) + 1 in
@@ -63,7 +63,7 @@ unstaged less now phase is =
 -- ---- an open directory is closed
 
 -- it is there
-open_there : (lane : ℕ) (dir : Dir) (less now : Held) → WithDir lane dir less now → (root : Root) × (root_of now.dirs dir.number lane ≡ Some root)
+pub open_there : (lane : ℕ) (dir : Dir) (less now : Held) → WithDir lane dir less now → (root : Root) × (root_of now.dirs dir.number lane ≡ Some root)
 open_there lane dir less now is =
     let found = root_last dir.number lane is.root less.dirs in
     (found.0, ap (λ (h : Held). root_of h.dirs dir.number lane) is.is ∙ found.1)

@@ -42,7 +42,7 @@ use Rattle.system_updater.specs.declared.reply.UpdateReply.{UpdateReply}
 use Rattle.system_updater.specs.declared.reply.UpdateReply.TheVariants as replies
 use Rattle.system_updater.specs.declared.plan.Plan.{Plan}
 use Rattle.system_updater.specs.Plan.{name_of, roots_of, sys_of, Task}
-use Rattle.system_updater.specs.Serving.{Point, Prior, next_file, IsOne, Follows, closed, left, image_left, Copies, after_read, after_reject, after_stage, after_retain, copy_refusal, after_seal, activation_reply}
+use Rattle.system_updater.specs.Serving.{Point, Prior, next_file, IsOne, Follows, closed, left, image_left, Copies, CanCome, after_read, after_reject, after_stage, after_retain, copy_refusal, after_seal, activation_reply}
 use Rattle.system_updater.specs.Serving.Point.{Reading, Rejecting, Staging, Retaining, Filling, Copying, Activating, Closing, Leaving}
 use Rattle.system_updater.specs.Holding.{IsOpen, IsHeldAt, HoldsAt}
 use Rattle.system_updater.specs.Holding as holding
@@ -50,6 +50,7 @@ use Rattle.system_updater.specs.Viewing.{Told}
 use Rattle.system_updater.specs.Steps.{Goes, IsRefusal}
 use Rattle.system_updater.proofs.Goes.{IsPlainEvent, plain_by, read_plain, retain_plain, does_event, does_rest, goes_leg}
 use Rattle.system_updater.proofs.Closes.{none_staged, unstaged, closed_less, never_bad, never_short}
+use Rattle.system_updater.proofs.Alive.{read_never_bad, copy_never_bad, never_in_use}
 use Rattle.system_updater.proofs.Places.{open_closed, staged_left, restaged, same_held, judged_open}
 
 module _ (old new : View) (repo : Told) (F G : Type 0) where
@@ -75,23 +76,27 @@ module _ (old new : View) (repo : Told) (F G : Type 0) where
 
 -- ---- a manifest is read
 
-read_open : (lane : ℕ) (dir : Dir) (prior : Prior) (reply : ReadReply) (base now : Held) → IsOpen lane dir base now → IsHeldAt lane (after_read dir prior reply) base now
-read_open lane dir prior (read.Got bytes) base now is = judged_open lane dir prior (Some bytes) base now is
-read_open lane dir prior read.NoFile base now is = judged_open lane dir prior None base now is
-read_open lane dir prior (read.TooLong len) base now is = is
-read_open lane dir prior read.BadDir base now is = open_closed lane dir replies.BadDir base now is
-read_open lane dir prior read.DiskRead base now is = open_closed lane dir replies.DiskRead base now is
-read_open lane dir prior (read.Rotten root got) base now is = open_closed lane dir (replies.Rotten root got) base now is
-read_open lane dir prior (read.Broken number) base now is = open_closed lane dir (replies.Broken number) base now is
-read_open lane dir prior read.NoMemory base now is = open_closed lane dir replies.NoMemory base now is
+read_open : (lane : ℕ) (dir : Dir) (prior : Prior) (reply : ReadReply) (base now : Held) → (reply ≡ read.BadDir → ⊥) → IsOpen lane dir base now → IsHeldAt lane (after_read dir prior reply) base now
+read_open lane dir prior (read.Got bytes) base now isnt is = judged_open lane dir prior (Some bytes) base now is
+read_open lane dir prior read.NoFile base now isnt is = judged_open lane dir prior None base now is
+read_open lane dir prior (read.TooLong len) base now isnt is = is
+read_open lane dir prior read.BadDir base now isnt is = absurd (isnt refl)
+read_open lane dir prior read.DiskRead base now isnt is = open_closed lane dir replies.DiskRead base now tt is
+read_open lane dir prior (read.Rotten root got) base now isnt is = open_closed lane dir (replies.Rotten root got) base now tt is
+read_open lane dir prior (read.Broken number) base now isnt is = open_closed lane dir (replies.Broken number) base now tt is
+read_open lane dir prior read.NoMemory base now isnt is = open_closed lane dir replies.NoMemory base now tt is
 
 module _ (dir : Dir) (prior : Prior) (old new : View) (repo : Told) (F G : Type 0) where
+  -- the directory is open
+  not_bad : (reply : ReadReply) → desk.Does old new (IsRead dir.number (name_of (next_file prior)) reply) → (base : Held) → IsOpen old.lane dir base (held_by old) → reply ≡ read.BadDir → ⊥
+  not_bad reply does base is same = read_never_bad ⊥ dir (name_of (next_file prior)) base old new (subst (λ (r : ReadReply). desk.Does old new (IsRead dir.number (name_of (next_file prior)) r)) same does) is
+
   read_event : (reply : ReadReply) → desk.Does old new (IsRead dir.number (name_of (next_file prior)) reply) → held_by new ≡ held_by old → F ↔ G
       → Goes (Reading dir prior) (after_read dir prior reply) old new repo repo F G
   read_event reply does held firm =
       event_goes old new repo F G (Reading dir prior) (after_read dir prior reply) (IsRead dir.number (name_of (next_file prior)) reply) does
       (λ leg is. inl (record { reply = reply; event = is; leads = refl })) (read_plain dir.number (name_of (next_file prior)) reply (length (old.seen ++ does.others) + 1) does.event does.its) held firm
-      (λ base is. read_open old.lane dir prior reply base (held_by old) is)
+      (λ base is. read_open old.lane dir prior reply base (held_by old) (not_bad reply does base is) is)
 
   pub read_goes : (reply : ReadReply) → call.Reads dir.number (name_of (next_file prior)) reply old new → F ↔ G → Goes (Reading dir prior) (after_read dir prior reply) old new repo repo F G
   read_goes (read.Got bytes) is firm = read_event (read.Got bytes) is (held_after_read dir.number (name_of (next_file prior)) (read.Got bytes) old new is) firm
@@ -102,7 +107,7 @@ module _ (dir : Dir) (prior : Prior) (old new : View) (repo : Told) (F G : Type 
   read_goes (read.Rotten root got) is firm = read_event (read.Rotten root got) is (held_after_read dir.number (name_of (next_file prior)) (read.Rotten root got) old new is) firm
   read_goes (read.Broken number) is firm = read_event (read.Broken number) is (held_after_read dir.number (name_of (next_file prior)) (read.Broken number) old new is) firm
   read_goes read.NoMemory is firm =
-      rest_goes old new repo F G (Reading dir prior) (closed dir replies.NoMemory) is (inr (refl, refl)) firm (λ base is. open_closed old.lane dir replies.NoMemory base (held_by old) is)
+      rest_goes old new repo F G (Reading dir prior) (closed dir replies.NoMemory) is (inr (refl, refl)) firm (λ base is. open_closed old.lane dir replies.NoMemory base (held_by old) tt is)
 
 -- ---- a manifest is rejected
 
@@ -112,9 +117,9 @@ reject_plain file why (reject.Broken broken) number e is = plain_by (acts.Refuse
 reject_plain file why reject.NoMemory number e is = absurd is
 
 reject_open : (lane : ℕ) (dir : Dir) (file : ManifestFile) (why : ManifestFault) (reply : RejectReply) (base now : Held) → IsOpen lane dir base now → IsHeldAt lane (after_reject dir file why reply) base now
-reject_open lane dir file why reject.Noted base now is = open_closed lane dir (replies.Manifest file why) base now is
-reject_open lane dir file why (reject.Broken number) base now is = open_closed lane dir (replies.Broken number) base now is
-reject_open lane dir file why reject.NoMemory base now is = open_closed lane dir replies.NoMemory base now is
+reject_open lane dir file why reject.Noted base now is = open_closed lane dir (replies.Manifest file why) base now tt is
+reject_open lane dir file why (reject.Broken number) base now is = open_closed lane dir (replies.Broken number) base now tt is
+reject_open lane dir file why reject.NoMemory base now is = open_closed lane dir replies.NoMemory base now tt is
 
 module _ (dir : Dir) (file : ManifestFile) (why : ManifestFault) (old new : View) (repo : Told) (F G : Type 0) where
   reject_event : (reply : RejectReply) → desk.Does old new (IsRejected file why reply) → held_by new ≡ held_by old → F ↔ G → Goes (Rejecting dir file why) (after_reject dir file why reply) old new repo repo F G
@@ -126,7 +131,7 @@ module _ (dir : Dir) (file : ManifestFile) (why : ManifestFault) (old new : View
   reject_goes reject.Noted is firm = reject_event reject.Noted is (held_after_reject file why reject.Noted old new is) firm
   reject_goes (reject.Broken number) is firm = reject_event (reject.Broken number) is (held_after_reject file why (reject.Broken number) old new is) firm
   reject_goes reject.NoMemory is firm =
-      rest_goes old new repo F G (Rejecting dir file why) (closed dir replies.NoMemory) is (inr (refl, refl)) firm (λ base is. open_closed old.lane dir replies.NoMemory base (held_by old) is)
+      rest_goes old new repo F G (Rejecting dir file why) (closed dir replies.NoMemory) is (inr (refl, refl)) firm (λ base is. open_closed old.lane dir replies.NoMemory base (held_by old) tt is)
 
 -- ---- a slot is taken
 
@@ -147,41 +152,46 @@ module _ (dir : Dir) (plan : Plan) (old new : View) (repo : Told) (F G : Type 0)
       event_leads old new repo F G (Staging dir plan) (after_stage dir plan reply) (IsStaged plan.epoch reply) does (λ leg is. inl (record { reply = reply; event = is; leads = refl }))
       (stage_plain plan.epoch reply (length (old.seen ++ does.others) + 1) does.event does.its) claim firm places
 
-  stage_refused : (reply : StageReply) (ended : UpdateReply) → desk.Does old new (IsStaged plan.epoch reply) → held_by new ≡ held_by old → F ↔ G → after_stage dir plan reply ≡ closed dir ended
+  stage_refused : (reply : StageReply) (ended : UpdateReply) → desk.Does old new (IsStaged plan.epoch reply) → held_by new ≡ held_by old → F ↔ G → CanCome ended → after_stage dir plan reply ≡ closed dir ended
       → Goes (Staging dir plan) (after_stage dir plan reply) old new repo repo F G
-  stage_refused reply ended does held firm same =
+  stage_refused reply ended does held firm comes same =
       stage_event reply does (ap (λ (h : Held). h.claim) held) firm
-      (λ base is. subst (λ (p : Point). IsHeldAt old.lane p base (held_by new)) (sym same) (subst (λ (h : Held). IsHeldAt old.lane (closed dir ended) base h) (sym held) (open_closed old.lane dir ended base (held_by old) is)))
+      (λ base is. subst (λ (p : Point). IsHeldAt old.lane p base (held_by new)) (sym same) (subst (λ (h : Held). IsHeldAt old.lane (closed dir ended) base h) (sym held) (open_closed old.lane dir ended base (held_by old) comes is)))
 
   pub stage_goes : (reply : StageReply) → call.Stages plan.epoch reply old new → F ↔ G → Goes (Staging dir plan) (after_stage dir plan reply) old new repo repo F G
   stage_goes (stage.Turn slot) is firm =
       let held = staged plan.epoch (stage.Turn slot) old new is in
       stage_event (stage.Turn slot) is (ap (λ (h : Held). h.claim) held) firm
       (λ base opened. (held_by old, opened, record { none = none_staged plan.epoch slot old new is; is = held }))
-  stage_goes stage.InRecovery is firm = stage_refused stage.InRecovery replies.InRecovery is (staged plan.epoch stage.InRecovery old new is) firm refl
-  stage_goes (stage.Busy lane) is firm = stage_refused (stage.Busy lane) (replies.Busy lane) is (staged plan.epoch (stage.Busy lane) old new is) firm refl
-  stage_goes stage.NotCommitted is firm = stage_refused stage.NotCommitted replies.NotCommitted is (staged plan.epoch stage.NotCommitted old new is) firm refl
-  stage_goes (stage.Older have) is firm = stage_refused (stage.Older have) (replies.Epoch have plan.epoch) is (staged plan.epoch (stage.Older have) old new is) firm refl
-  stage_goes (stage.Broken number) is firm = stage_refused (stage.Broken number) (replies.Broken number) is (staged plan.epoch (stage.Broken number) old new is) firm refl
+  stage_goes stage.InRecovery is firm = stage_refused stage.InRecovery replies.InRecovery is (staged plan.epoch stage.InRecovery old new is) firm tt refl
+  stage_goes (stage.Busy lane) is firm = stage_refused (stage.Busy lane) (replies.Busy lane) is (staged plan.epoch (stage.Busy lane) old new is) firm tt refl
+  stage_goes stage.NotCommitted is firm = stage_refused stage.NotCommitted replies.NotCommitted is (staged plan.epoch stage.NotCommitted old new is) firm tt refl
+  stage_goes (stage.Older have) is firm = stage_refused (stage.Older have) (replies.Epoch have plan.epoch) is (staged plan.epoch (stage.Older have) old new is) firm tt refl
+  stage_goes (stage.Broken number) is firm = stage_refused (stage.Broken number) (replies.Broken number) is (staged plan.epoch (stage.Broken number) old new is) firm tt refl
   stage_goes stage.NoMemory is firm =
-      rest_goes old new repo F G (Staging dir plan) (closed dir replies.NoMemory) is (inr (refl, refl)) firm (λ base is. open_closed old.lane dir replies.NoMemory base (held_by old) is)
+      rest_goes old new repo F G (Staging dir plan) (closed dir replies.NoMemory) is (inr (refl, refl)) firm (λ base is. open_closed old.lane dir replies.NoMemory base (held_by old) tt is)
 
 -- ---- packages are retained
 
-retain_staged : (lane : ℕ) (dir : Dir) (plan : Plan) (reply : RetainReply) (base now : Held) → holding.IsStaged lane dir Fills base now → IsHeldAt lane (after_retain dir plan reply) base now
-retain_staged lane dir plan retain.Done base now is = is
-retain_staged lane dir plan retain.SlotInUse base now is = staged_left lane dir Fills replies.SlotInUse base now is
-retain_staged lane dir plan retain.DiskRead base now is = staged_left lane dir Fills replies.DiskRead base now is
-retain_staged lane dir plan (retain.Rotten root got) base now is = staged_left lane dir Fills (replies.Rotten root got) base now is
-retain_staged lane dir plan (retain.Broken number) base now is = staged_left lane dir Fills (replies.Broken number) base now is
-retain_staged lane dir plan retain.NoMemory base now is = staged_left lane dir Fills replies.NoMemory base now is
+retain_staged : (lane : ℕ) (dir : Dir) (plan : Plan) (reply : RetainReply) (base now : Held) → (reply ≡ retain.SlotInUse → ⊥) → holding.IsStaged lane dir Fills base now → IsHeldAt lane (after_retain dir plan reply) base now
+retain_staged lane dir plan retain.Done base now isnt is = is
+retain_staged lane dir plan retain.SlotInUse base now isnt is = absurd (isnt refl)
+retain_staged lane dir plan retain.DiskRead base now isnt is = staged_left lane dir Fills replies.DiskRead base now tt is
+retain_staged lane dir plan (retain.Rotten root got) base now isnt is = staged_left lane dir Fills (replies.Rotten root got) base now tt is
+retain_staged lane dir plan (retain.Broken number) base now isnt is = staged_left lane dir Fills (replies.Broken number) base now tt is
+retain_staged lane dir plan retain.NoMemory base now isnt is = staged_left lane dir Fills replies.NoMemory base now tt is
 
 module _ (dir : Dir) (plan : Plan) (old new : View) (repo : Told) (F G : Type 0) where
+  -- the slot that was taken can't be booted
+  not_in_use : (reply : RetainReply) → desk.Does old new (IsRetained (roots_of plan.packages) (length (roots_of plan.packages)) reply) → (base : Held) → holding.IsStaged old.lane dir Fills base (held_by old) → reply ≡ retain.SlotInUse → ⊥
+  not_in_use reply does base is same =
+      never_in_use ⊥ dir (roots_of plan.packages) (length (roots_of plan.packages)) base old new (subst (λ (r : RetainReply). desk.Does old new (IsRetained (roots_of plan.packages) (length (roots_of plan.packages)) r)) same does) is
+
   retain_event : (reply : RetainReply) → desk.Does old new (IsRetained (roots_of plan.packages) (length (roots_of plan.packages)) reply) → held_by new ≡ held_by old → F ↔ G
       → Goes (Retaining dir plan) (after_retain dir plan reply) old new repo repo F G
   retain_event reply does held firm =
       event_goes old new repo F G (Retaining dir plan) (after_retain dir plan reply) (IsRetained (roots_of plan.packages) (length (roots_of plan.packages)) reply) does (λ leg is. inl (record { reply = reply; event = is; leads = refl }))
-      (retain_plain (roots_of plan.packages) (length (roots_of plan.packages)) reply (length (old.seen ++ does.others) + 1) does.event does.its) held firm (λ base is. retain_staged old.lane dir plan reply base (held_by old) is)
+      (retain_plain (roots_of plan.packages) (length (roots_of plan.packages)) reply (length (old.seen ++ does.others) + 1) does.event does.its) held firm (λ base is. retain_staged old.lane dir plan reply base (held_by old) (not_in_use reply does base is) is)
 
   pub retain_goes : (reply : RetainReply) → call.Retains (roots_of plan.packages) reply old new → F ↔ G → Goes (Retaining dir plan) (after_retain dir plan reply) old new repo repo F G
   retain_goes retain.Done is firm = retain_event retain.Done is (held_after_retain (roots_of plan.packages) retain.Done old new is) firm
@@ -190,7 +200,7 @@ module _ (dir : Dir) (plan : Plan) (old new : View) (repo : Told) (F G : Type 0)
   retain_goes (retain.Rotten root got) is firm = retain_event (retain.Rotten root got) is (held_after_retain (roots_of plan.packages) (retain.Rotten root got) old new is) firm
   retain_goes (retain.Broken number) is firm = retain_event (retain.Broken number) is (held_after_retain (roots_of plan.packages) (retain.Broken number) old new is) firm
   retain_goes retain.NoMemory is firm =
-      rest_goes old new repo F G (Retaining dir plan) (left dir replies.NoMemory) is (inr (refl, refl)) firm (λ base is. staged_left old.lane dir Fills replies.NoMemory base (held_by old) is)
+      rest_goes old new repo F G (Retaining dir plan) (left dir replies.NoMemory) is (inr (refl, refl)) firm (λ base is. staged_left old.lane dir Fills replies.NoMemory base (held_by old) tt is)
 
 -- ---- a file is copied
 
@@ -209,19 +219,33 @@ pub copy_follows : (dir : Dir) (plan : Plan) (task : Task) (from : Dir) (later :
     → Copies dir plan task from later (Some file) leg to → Follows (Copying dir plan task from later) leg to
 copy_follows dir plan task from later file leg to is copied = subst (λ (o : Option (List ℕ)). Copies dir plan task from later o leg to) (sym is) copied
 
+copy_comes : (kind : ImageKind) (reply : CopyReply) → (reply ≡ copy.BadDir → ⊥) → CanCome (copy_refusal kind reply)
+copy_comes kind copy.BadDir isnt = absurd (isnt refl)
+copy_comes kind copy.NoFile isnt = tt
+copy_comes kind (copy.TooLarge len room) isnt = tt
+copy_comes kind copy.DiskRead isnt = tt
+copy_comes kind (copy.More have) isnt = tt
+copy_comes kind (copy.Whole len) isnt = tt
+copy_comes kind (copy.Broken number) isnt = tt
+copy_comes kind copy.NoMemory isnt = tt
+
 -- a copying that was refused
-pub image_is_left : (lane : ℕ) (dir : Dir) (plan : Plan) (task : Task) (from : Dir) (later : List Task) (reply : UpdateReply) (base now : Held) → IsHeldAt lane (Copying dir plan task from later) base now
+pub image_is_left : (lane : ℕ) (dir : Dir) (plan : Plan) (task : Task) (from : Dir) (later : List Task) (reply : UpdateReply) (base now : Held) → CanCome reply → IsHeldAt lane (Copying dir plan task from later) base now
     → IsHeldAt lane (image_left dir from reply) base now
-image_is_left lane dir plan task from later reply base now is = (is.0, staged_left lane dir Fills reply base is.0 is.1, is.2)
+image_is_left lane dir plan task from later reply base now comes is = (is.0, staged_left lane dir Fills reply base is.0 comes is.1, is.2)
 
 module _ (dir : Dir) (plan : Plan) (task : Task) (from : Dir) (later : List Task) (file : List ℕ) (old new : View) (repo : Told) (F G : Type 0) where
+  -- the image's directory is open
+  not_lost : (reply : CopyReply) → desk.Does old new (IsCopied task.kind from.number file reply) → (base : Held) → IsHeldAt old.lane (Copying dir plan task from later) base (held_by old) → reply ≡ copy.BadDir → ⊥
+  not_lost reply does base is same = copy_never_bad ⊥ task.kind from file is.0 old new (subst (λ (r : CopyReply). desk.Does old new (IsCopied task.kind from.number file r)) same does) is.2
+
   copy_event : (reply : CopyReply) → task.image.url.file ≡ Some file → desk.Does old new (IsCopied task.kind from.number file reply) → held_by new ≡ held_by old → F ↔ G
       → Goes (Copying dir plan task from later) (image_left dir from (copy_refusal task.kind reply)) old new repo repo F G
   copy_event reply named does held firm =
       event_goes old new repo F G (Copying dir plan task from later) (image_left dir from (copy_refusal task.kind reply)) (IsCopied task.kind from.number file reply) does
       (λ leg is. copy_follows dir plan task from later file leg (image_left dir from (copy_refusal task.kind reply)) named (inr (inl (record { reply = reply; event = is; leads = refl }))))
       (copy_plain task.kind from.number file reply (length (old.seen ++ does.others) + 1) does.event does.its) held firm
-      (λ base is. image_is_left old.lane dir plan task from later (copy_refusal task.kind reply) base (held_by old) is)
+      (λ base is. image_is_left old.lane dir plan task from later (copy_refusal task.kind reply) base (held_by old) (copy_comes task.kind reply (not_lost reply does base is)) is)
 
   -- a part more makes no event
   pub copy_more : Rests old new → F ↔ G → Goes (Copying dir plan task from later) (Copying dir plan task from later) old new repo repo F G
@@ -248,7 +272,7 @@ module _ (dir : Dir) (plan : Plan) (task : Task) (from : Dir) (later : List Task
   copy_refused (copy.Whole len) named refusal is firm = absurd refusal
   copy_refused copy.NoMemory named refusal is firm =
       rest_goes old new repo F G (Copying dir plan task from later) (image_left dir from replies.NoMemory) is (copy_follows dir plan task from later file [] (image_left dir from replies.NoMemory) named (inr (inr (refl, refl)))) firm
-      (λ base is. image_is_left old.lane dir plan task from later replies.NoMemory base (held_by old) is)
+      (λ base is. image_is_left old.lane dir plan task from later replies.NoMemory base (held_by old) tt is)
 
 -- ---- the slot is sealed
 
@@ -266,20 +290,20 @@ module _ (dir : Dir) (plan : Plan) (old new : View) (repo : Told) (F G : Type 0)
       event_leads old new repo F G (Filling dir plan []) (after_seal dir (sys_of plan) reply) (IsSealed (sys_of plan) reply) does (λ leg is. inl (record { reply = reply; event = is; leads = refl }))
       (seal_plain (sys_of plan) reply (length (old.seen ++ does.others) + 1) does.event does.its) claim firm places
 
-  seal_refused : (reply : SealReply) (ended : UpdateReply) → desk.Does old new (IsSealed (sys_of plan) reply) → held_by new ≡ held_by old → F ↔ G → after_seal dir (sys_of plan) reply ≡ left dir ended
+  seal_refused : (reply : SealReply) (ended : UpdateReply) → desk.Does old new (IsSealed (sys_of plan) reply) → held_by new ≡ held_by old → F ↔ G → CanCome ended → after_seal dir (sys_of plan) reply ≡ left dir ended
       → Goes (Filling dir plan []) (after_seal dir (sys_of plan) reply) old new repo repo F G
-  seal_refused reply ended does held firm same =
+  seal_refused reply ended does held firm comes same =
       seal_event reply does (ap (λ (h : Held). h.claim) held) firm
-      (λ base is. subst (λ (p : Point). IsHeldAt old.lane p base (held_by new)) (sym same) (subst (λ (h : Held). IsHeldAt old.lane (left dir ended) base h) (sym held) (staged_left old.lane dir Fills ended base (held_by old) is)))
+      (λ base is. subst (λ (p : Point). IsHeldAt old.lane p base (held_by new)) (sym same) (subst (λ (h : Held). IsHeldAt old.lane (left dir ended) base h) (sym held) (staged_left old.lane dir Fills ended base (held_by old) comes is)))
 
   pub seal_goes : (reply : SealReply) → call.Seals (sys_of plan) reply old new → F ↔ G → Goes (Filling dir plan []) (after_seal dir (sys_of plan) reply) old new repo repo F G
   seal_goes seal.Sealed is firm =
       let held = sealed (sys_of plan) seal.Sealed old new is in
       seal_event seal.Sealed is (ap (λ (h : Held). h.claim) held) firm (λ base is. restaged old.lane dir Fills (Sealed (sys_of plan)) base (held_by old) (held_by new) is held)
-  seal_goes (seal.Differs image got) is firm = seal_refused (seal.Differs image got) (replies.Differs image got) is (sealed (sys_of plan) (seal.Differs image got) old new is) firm refl
-  seal_goes (seal.Broken number) is firm = seal_refused (seal.Broken number) (replies.Broken number) is (sealed (sys_of plan) (seal.Broken number) old new is) firm refl
+  seal_goes (seal.Differs image got) is firm = seal_refused (seal.Differs image got) (replies.Differs image got) is (sealed (sys_of plan) (seal.Differs image got) old new is) firm tt refl
+  seal_goes (seal.Broken number) is firm = seal_refused (seal.Broken number) (replies.Broken number) is (sealed (sys_of plan) (seal.Broken number) old new is) firm tt refl
   seal_goes seal.NoMemory is firm =
-      rest_goes old new repo F G (Filling dir plan []) (left dir replies.NoMemory) is (inr (refl, refl)) firm (λ base is. staged_left old.lane dir Fills replies.NoMemory base (held_by old) is)
+      rest_goes old new repo F G (Filling dir plan []) (left dir replies.NoMemory) is (inr (refl, refl)) firm (λ base is. staged_left old.lane dir Fills replies.NoMemory base (held_by old) tt is)
 
 -- ---- the system is made to boot next
 
@@ -300,23 +324,23 @@ module _ (dir : Dir) (sys : Sys) (old new : View) (repo : Told) (F G : Type 0) w
       event_leads old new repo F G (Activating dir sys) (left dir (activation_reply reply)) (IsActivated reply) does (λ leg is. inl (record { reply = reply; event = is; leads = refl }))
       (activate_plain reply (length (old.seen ++ does.others) + 1) does.event does.its) claim firm places
 
-  activate_refused : (reply : ActivateReply) → desk.Does old new (IsActivated reply) → held_by new ≡ held_by old → F ↔ G → Goes (Activating dir sys) (left dir (activation_reply reply)) old new repo repo F G
-  activate_refused reply does held firm =
+  activate_refused : (reply : ActivateReply) → CanCome (activation_reply reply) → desk.Does old new (IsActivated reply) → held_by new ≡ held_by old → F ↔ G → Goes (Activating dir sys) (left dir (activation_reply reply)) old new repo repo F G
+  activate_refused reply comes does held firm =
       activate_event reply does (ap (λ (h : Held). h.claim) held) firm
-      (λ base is. subst (λ (h : Held). IsHeldAt old.lane (left dir (activation_reply reply)) base h) (sym held) (staged_left old.lane dir (Sealed sys) (activation_reply reply) base (held_by old) is))
+      (λ base is. subst (λ (h : Held). IsHeldAt old.lane (left dir (activation_reply reply)) base h) (sym held) (staged_left old.lane dir (Sealed sys) (activation_reply reply) base (held_by old) comes is))
 
   pub activate_goes : (reply : ActivateReply) → call.Activates reply old new → F ↔ G → Goes (Activating dir sys) (left dir (activation_reply reply)) old new repo repo F G
   activate_goes (activate.Active slot) is firm =
       let held = activated (activate.Active slot) old new is in
       activate_event (activate.Active slot) is (ap (λ (h : Held). h.claim) held) firm
-      (λ base is. staged_left old.lane dir Done (replies.Staged slot) base (held_by new) (restaged old.lane dir (Sealed sys) Done base (held_by old) (held_by new) is held))
-  activate_goes (activate.BaseMissing root) is firm = activate_refused (activate.BaseMissing root) is (activated (activate.BaseMissing root) old new is) firm
-  activate_goes (activate.NotASystem why) is firm = activate_refused (activate.NotASystem why) is (activated (activate.NotASystem why) old new is) firm
-  activate_goes activate.DiskRead is firm = activate_refused activate.DiskRead is (activated activate.DiskRead old new is) firm
-  activate_goes (activate.Rotten root got) is firm = activate_refused (activate.Rotten root got) is (activated (activate.Rotten root got) old new is) firm
-  activate_goes (activate.Broken number) is firm = activate_refused (activate.Broken number) is (activated (activate.Broken number) old new is) firm
+      (λ base is. staged_left old.lane dir Done (replies.Staged slot) base (held_by new) tt (restaged old.lane dir (Sealed sys) Done base (held_by old) (held_by new) is held))
+  activate_goes (activate.BaseMissing root) is firm = activate_refused (activate.BaseMissing root) tt is (activated (activate.BaseMissing root) old new is) firm
+  activate_goes (activate.NotASystem why) is firm = activate_refused (activate.NotASystem why) tt is (activated (activate.NotASystem why) old new is) firm
+  activate_goes activate.DiskRead is firm = activate_refused activate.DiskRead tt is (activated activate.DiskRead old new is) firm
+  activate_goes (activate.Rotten root got) is firm = activate_refused (activate.Rotten root got) tt is (activated (activate.Rotten root got) old new is) firm
+  activate_goes (activate.Broken number) is firm = activate_refused (activate.Broken number) tt is (activated (activate.Broken number) old new is) firm
   activate_goes activate.NoMemory is firm =
-      rest_goes old new repo F G (Activating dir sys) (left dir replies.NoMemory) is (inr (refl, refl)) firm (λ base is. staged_left old.lane dir (Sealed sys) replies.NoMemory base (held_by old) is)
+      rest_goes old new repo F G (Activating dir sys) (left dir replies.NoMemory) is (inr (refl, refl)) firm (λ base is. staged_left old.lane dir (Sealed sys) replies.NoMemory base (held_by old) tt is)
 
 -- ---- the stage is left
 

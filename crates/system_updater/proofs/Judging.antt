@@ -19,4 +19,4 @@ judged_goes next dir prior found (Err (refusals.Bad file why)) from old new repo
 judged_goes next dir prior found (Err (refusals.Ended reply)) from old new repo F G goes is =
     goes_to from (closed dir replies.NoMemory) (closed dir reply) old new repo repo F G (ap (closed dir) (sym is))
     (goes_then from (judged dir prior found) (closed dir replies.NoMemory) old new new repo repo repo F G G goes
-    (goes_pass (judged dir prior found) (closed dir replies.NoMemory) new repo G (judged_cut dir prior found) (λ base at. open_closed new.lane dir replies.NoMemory base (held_by new) (judged_open-back new.lane dir prior found base (held_by new) at))))
+    (goes_pass (judged dir prior found) (closed dir replies.NoMemory) new repo G (judged_cut dir prior found) (λ base at. open_closed new.lane dir replies.NoMemory base (held_by new) tt (judged_open-back new.lane dir prior found base (held_by new) at))))

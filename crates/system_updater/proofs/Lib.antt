@@ -1,9 +1,11 @@
 pub mod Goes
 pub mod Places
 pub mod Closes
+pub mod Alive
 pub mod Desks
 pub mod Wholes
 pub mod Judging
 pub mod Marks
 pub mod Staged
+pub mod Named
 pub mod Causes

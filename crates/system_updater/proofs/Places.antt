@@ -16,17 +16,17 @@ use Rattle.store_model.specs.Holding.{Held}
 use Rattle.store_model.specs.State.{Phase}
 use Rattle.system_updater.specs.declared.reply.UpdateReply.{UpdateReply}
 use Rattle.system_updater.specs.declared.reply.UpdateReply.TheVariants as replies
-use Rattle.system_updater.specs.Serving.{Point, Prior, with_epoch, with_packages, with_images, judged, closed, left, Follows}
+use Rattle.system_updater.specs.Serving.{Point, Prior, with_epoch, with_packages, with_images, judged, closed, left, Follows, CanCome}
 use Rattle.system_updater.specs.Serving.Prior.{NothingRead, EpochRead, PackagesRead}
 use Rattle.system_updater.specs.Holding.{IsOpen, IsStaged, IsHeldAt}
 
 -- ---- ends
 
-pub open_closed : (lane : ℕ) (dir : Dir) (reply : UpdateReply) (base now : Held) → IsOpen lane dir base now → IsHeldAt lane (closed dir reply) base now
-open_closed lane dir reply base now is = (base, refl, is)
+pub open_closed : (lane : ℕ) (dir : Dir) (reply : UpdateReply) (base now : Held) → CanCome reply → IsOpen lane dir base now → IsHeldAt lane (closed dir reply) base now
+open_closed lane dir reply base now comes is = (base, (comes, refl), is)
 
-pub staged_left : (lane : ℕ) (dir : Dir) (phase : Phase) (reply : UpdateReply) (base now : Held) → IsStaged lane dir phase base now → IsHeldAt lane (left dir reply) base now
-staged_left lane dir phase reply base now is = (is.0, open_closed lane dir reply base is.0 is.1, (phase, is.2))
+pub staged_left : (lane : ℕ) (dir : Dir) (phase : Phase) (reply : UpdateReply) (base now : Held) → CanCome reply → IsStaged lane dir phase base now → IsHeldAt lane (left dir reply) base now
+staged_left lane dir phase reply base now comes is = (is.0, open_closed lane dir reply base is.0 comes is.1, (phase, is.2))
 
 -- the stage is in another phase
 pub restaged : (lane : ℕ) (dir : Dir) (p q : Phase) (base now new : Held) → IsStaged lane dir p base now → new ≡ record now { stage = Some q } → IsStaged lane dir q base new

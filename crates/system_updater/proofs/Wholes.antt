@@ -19,7 +19,7 @@ use Rattle.resolver.specs.Viewing.{Resolves as Resolved, IsHeldAfter}
 use Rattle.system_updater.specs.declared.reply.UpdateReply.{UpdateReply}
 use Rattle.system_updater.specs.declared.plan.Plan.{Plan}
 use Rattle.system_updater.specs.Plan.{Task}
-use Rattle.system_updater.specs.Serving.{Point, Follows, Resolves, left, refusal_of, after_resolve, joined}
+use Rattle.system_updater.specs.Serving.{Point, Follows, Resolves, left, refusal_of, after_resolve, joined, CanCome}
 use Rattle.system_updater.specs.Serving.Point.{Asking, Reading, Rejecting, Staging, Retaining, Fetching, Filling, Copying, Activating, Closing, Leaving, Ended}
 use Rattle.system_updater.specs.Serving.Prior.{NothingRead}
 use Rattle.system_updater.specs.Holding.{WithDir, IsStaged, IsHeldAt, HoldsAt}
@@ -57,7 +57,7 @@ claim_at lane (Copying dir plan task from later) base now is = claim_open lane f
 claim_at lane (Activating dir sys) base now is = claim_staged lane dir (Sealed sys) base now is
 claim_at lane (Closing dir next) base now is = claim_open lane dir is.0 now is.2 ∙ claim_at lane next base is.0 is.1
 claim_at lane (Leaving next) base now is = ap (λ (h : Held). h.claim) is.2.1.is ∙ claim_at lane next base is.0 is.1
-claim_at lane (Ended reply) base now is = ap (λ (h : Held). h.claim) is
+claim_at lane (Ended reply) base now is = ap (λ (h : Held). h.claim) is.1
 
 pub no_claim : (p : Point) (v : View) → HoldsAt p v → HoldsNoClaim v
 no_claim p v at = claim_at v.lane p at.base (held_by v) at.is ∙ at.free
@@ -86,23 +86,23 @@ asking_at path pin v free = record { base = held_by v; free = free; is = refl }
 -- what is held after it, where the package's directory comes to what was held, or nothing does
 resolved_held : (lane : ℕ) (a : Point) (opened : Dir → Point) (ended : UpdateReply → Point) (reply : ResolveReply) (base old new : Held)
     → ((dir : Dir) (now : Held) → IsHeldAt lane a base old → WithDir lane dir old now → IsHeldAt lane (opened dir) base now)
-    → ((r : UpdateReply) → IsHeldAt lane a base old → IsHeldAt lane (ended r) base old)
+    → ((r : UpdateReply) → CanCome r → IsHeldAt lane a base old → IsHeldAt lane (ended r) base old)
     → IsHeldAfter lane reply old new → IsHeldAt lane a base old → IsHeldAt lane (after_resolve opened ended reply) base new
 resolved_held lane a opened ended (resolved.Resolved dir) base old new more same after is = more dir new is (record { root = after.0; is = after.1 })
-resolved_held lane a opened ended resolved.InRecovery base old new more same after is = subst (λ (h : Held). IsHeldAt lane (ended (refusal_of resolved.InRecovery)) base h) (sym after) (same (refusal_of resolved.InRecovery) is)
-resolved_held lane a opened ended resolved.NotFound base old new more same after is = subst (λ (h : Held). IsHeldAt lane (ended (refusal_of resolved.NotFound)) base h) (sym after) (same (refusal_of resolved.NotFound) is)
-resolved_held lane a opened ended resolved.ListingFault base old new more same after is = subst (λ (h : Held). IsHeldAt lane (ended (refusal_of resolved.ListingFault)) base h) (sym after) (same (refusal_of resolved.ListingFault) is)
-resolved_held lane a opened ended (resolved.Failed cause) base old new more same after is = subst (λ (h : Held). IsHeldAt lane (ended (refusal_of (resolved.Failed cause))) base h) (sym after) (same (refusal_of (resolved.Failed cause)) is)
-resolved_held lane a opened ended resolved.DiskRead base old new more same after is = subst (λ (h : Held). IsHeldAt lane (ended (refusal_of resolved.DiskRead)) base h) (sym after) (same (refusal_of resolved.DiskRead) is)
-resolved_held lane a opened ended (resolved.Rotten root got) base old new more same after is = subst (λ (h : Held). IsHeldAt lane (ended (refusal_of (resolved.Rotten root got))) base h) (sym after) (same (refusal_of (resolved.Rotten root got)) is)
-resolved_held lane a opened ended (resolved.Broken number) base old new more same after is = subst (λ (h : Held). IsHeldAt lane (ended (refusal_of (resolved.Broken number))) base h) (sym after) (same (refusal_of (resolved.Broken number)) is)
-resolved_held lane a opened ended resolved.NoMemory base old new more same after is = subst (λ (h : Held). IsHeldAt lane (ended (refusal_of resolved.NoMemory)) base h) (sym after) (same (refusal_of resolved.NoMemory) is)
+resolved_held lane a opened ended resolved.InRecovery base old new more same after is = subst (λ (h : Held). IsHeldAt lane (ended (refusal_of resolved.InRecovery)) base h) (sym after) (same (refusal_of resolved.InRecovery) tt is)
+resolved_held lane a opened ended resolved.NotFound base old new more same after is = subst (λ (h : Held). IsHeldAt lane (ended (refusal_of resolved.NotFound)) base h) (sym after) (same (refusal_of resolved.NotFound) tt is)
+resolved_held lane a opened ended resolved.ListingFault base old new more same after is = subst (λ (h : Held). IsHeldAt lane (ended (refusal_of resolved.ListingFault)) base h) (sym after) (same (refusal_of resolved.ListingFault) tt is)
+resolved_held lane a opened ended (resolved.Failed cause) base old new more same after is = subst (λ (h : Held). IsHeldAt lane (ended (refusal_of (resolved.Failed cause))) base h) (sym after) (same (refusal_of (resolved.Failed cause)) tt is)
+resolved_held lane a opened ended resolved.DiskRead base old new more same after is = subst (λ (h : Held). IsHeldAt lane (ended (refusal_of resolved.DiskRead)) base h) (sym after) (same (refusal_of resolved.DiskRead) tt is)
+resolved_held lane a opened ended (resolved.Rotten root got) base old new more same after is = subst (λ (h : Held). IsHeldAt lane (ended (refusal_of (resolved.Rotten root got))) base h) (sym after) (same (refusal_of (resolved.Rotten root got)) tt is)
+resolved_held lane a opened ended (resolved.Broken number) base old new more same after is = subst (λ (h : Held). IsHeldAt lane (ended (refusal_of (resolved.Broken number))) base h) (sym after) (same (refusal_of (resolved.Broken number)) tt is)
+resolved_held lane a opened ended resolved.NoMemory base old new more same after is = subst (λ (h : Held). IsHeldAt lane (ended (refusal_of resolved.NoMemory)) base h) (sym after) (same (refusal_of resolved.NoMemory) tt is)
 
 module _ (path : NameAndVariant) (pin : Option Root) (reply : ResolveReply) (old new : View) (listing listing_now : Option (List Pinned)) (files files_now : Option (List RepoFile)) (x y p q : ℕ) (F G : Type 0)
     (is : Resolved path pin reply old new listing files x y p q) (same_listing : listing_now ≡ listing) (same_files : files_now ≡ files) (firm : F ↔ G) where
   goes_resolve : (a : Point) (opened : Dir → Point) (ended : UpdateReply → Point) → ((leg : List Numbered) (to : Point) → Resolves path pin (after_resolve opened ended) leg to → Follows a leg to)
       → ((base : Held) (dir : Dir) (now : Held) → IsHeldAt old.lane a base (held_by old) → WithDir old.lane dir (held_by old) now → IsHeldAt old.lane (opened dir) base now)
-      → ((base : Held) (r : UpdateReply) → IsHeldAt old.lane a base (held_by old) → IsHeldAt old.lane (ended r) base (held_by old))
+      → ((base : Held) (r : UpdateReply) → CanCome r → IsHeldAt old.lane a base (held_by old) → IsHeldAt old.lane (ended r) base (held_by old))
       → Goes a (after_resolve opened ended reply) old new (told listing files x p) (told listing_now files_now y q) F G
   goes_resolve a opened ended follows more same =
       goes_leg a (after_resolve opened ended reply) is.run old new (told listing files x p) (told listing_now files_now y q) F G
@@ -114,7 +114,7 @@ module _ (path : NameAndVariant) (pin : Option Root) (reply : ResolveReply) (old
   pub first_goes : Goes (Asking path pin) (after_resolve (λ (dir : Dir). Reading dir NothingRead) Ended reply) old new (told listing files x p) (told listing_now files_now y q) F G
   first_goes =
       goes_resolve (Asking path pin) (λ dir. Reading dir NothingRead) Ended (λ leg to r. r)
-      (λ base dir now at with_dir. subst (λ (h : Held). WithDir old.lane dir h now) at with_dir) (λ base r at. at)
+      (λ base dir now at with_dir. subst (λ (h : Held). WithDir old.lane dir h now) at with_dir) (λ base r comes at. (comes, at))
 
   -- a package of the next system
   pub package_goes : (dir : Dir) (plan : Plan) (pinned : Pinned) (later : List Pinned) → path ≡ pinned.path → pin ≡ Some pinned.root
@@ -123,7 +123,7 @@ module _ (path : NameAndVariant) (pin : Option Root) (reply : ResolveReply) (old
       goes_resolve (Fetching dir plan (pinned ∷ later)) (λ from. Closing from (Fetching dir plan later)) (left dir)
       (λ leg to r. inl (subst (λ (n : NameAndVariant). Resolves n (Some pinned.root) (after_resolve (λ from. Closing from (Fetching dir plan later)) (left dir)) leg to) same_path
       (subst (λ (o : Option Root). Resolves path o (after_resolve (λ from. Closing from (Fetching dir plan later)) (left dir)) leg to) same_pin r)))
-      (λ base from now at with_dir. (held_by old, at, with_dir)) (λ base r at. staged_left old.lane dir Fills r base (held_by old) at)
+      (λ base from now at with_dir. (held_by old, at, with_dir)) (λ base r comes at. staged_left old.lane dir Fills r base (held_by old) comes at)
 
   -- the package of an image
   pub image_goes : (dir : Dir) (plan : Plan) (task : Task) (later : List Task) → path ≡ task.image.url.path → pin ≡ task.image.url.pin
@@ -132,7 +132,7 @@ module _ (path : NameAndVariant) (pin : Option Root) (reply : ResolveReply) (old
       goes_resolve (Filling dir plan (task ∷ later)) (λ from. Copying dir plan task from later) (left dir)
       (λ leg to r. subst (λ (n : NameAndVariant). Resolves n task.image.url.pin (after_resolve (λ from. Copying dir plan task from later) (left dir)) leg to) same_path
       (subst (λ (o : Option Root). Resolves path o (after_resolve (λ from. Copying dir plan task from later) (left dir)) leg to) same_pin r))
-      (λ base from now at with_dir. (held_by old, at, with_dir)) (λ base r at. staged_left old.lane dir Fills r base (held_by old) at)
+      (λ base from now at with_dir. (held_by old, at, with_dir)) (λ base r comes at. staged_left old.lane dir Fills r base (held_by old) comes at)
 
 -- the directory of an image is closed, whatever came of its file
 pub image_closed : {A : Type 0} (next : Point) (dir from : Dir) (result : Result A UpdateReply) (v w : View) (r : Told) (F G : Type 0)
@@ -164,7 +164,8 @@ whole path pin reply old new r s F G h = record {
   run = joined h.legs;
   grows = h.does.mine;
   serves = record { legs = h.legs; whole = refl; leads = h.leads };
-  held = h.held (held_by old) refl;
+  comes = (h.held (held_by old) refl).0;
+  held = (h.held (held_by old) refl).1;
   asked = h.does.asked;
   failed = h.does.failed;
   lists = h.does.lists;

@@ -1,5 +1,5 @@
 -- What a reply tells: the part of the run on which it follows.
-use Rattle.std.specs.Prelude.{◌≡◌, ◌⊎◌, ℕ, true, List, [], ◌++◌, Option, Some, Err}
+use Rattle.std.specs.Prelude.{◌≡◌, ◌⊎◌, ℕ, true, List, ◌++◌, Option, Some, Err}
 use Rattle.image_layout.specs.declared.ImageKind.{ImageKind}
 use Rattle.image_layout.specs.declared.Sys.{Sys}
 use Rattle.pkg_names.specs.NameAndVariant.{NameAndVariant}
@@ -114,11 +114,10 @@ pub record IsRejection (file : ManifestFile) (why : ManifestFault) (part : List 
   pub rejected : IsOne (IsTold (replies.Manifest file why)) last
   pub both : part ≡ read ++ last
 
--- An image whose URL names no file is refused without an event, and of want of memory there is none.
+-- of want of memory there is none
 abbrev pub IsCause : UpdateReply → List Numbered → Type 0
 IsCause (replies.Resolve reply) part = IsResolve part reply
 IsCause (replies.Manifest file why) part = IsRejection file why part
-IsCause (replies.NoFile image) part = (part ≡ []) ⊎ IsOne (IsTold (replies.NoFile image)) part
 IsCause replies.NoMemory part = Unit {0}
 IsCause reply part = IsOne (IsTold reply) part
 

@@ -6,7 +6,7 @@ use Rattle.store_model.specs.State.{Phase}
 use Rattle.store_model.specs.State.Phase.{Filling as Fills, Sealed}
 use Rattle.store_model.specs.Holding.{Held}
 use Rattle.store_model.specs.Desk.{View, held_by}
-use Rattle.system_updater.specs.Serving.{Point}
+use Rattle.system_updater.specs.Serving.{Point, CanCome}
 use Rattle.system_updater.specs.Serving.Point.{Asking, Reading, Rejecting, Staging, Retaining, Fetching, Filling, Copying, Activating, Closing, Leaving, Ended}
 
 -- besides, this directory of some package
@@ -28,7 +28,8 @@ abbrev pub IsStaged : ℕ → Dir → Phase → Held → Held → Type 0
 IsStaged lane dir phase base now = (open_ : Held) × WithDir lane dir base open_ × WithStage phase open_ now
 
 -- What the lane holds at a point: the update package from its resolve on, a stage while a slot is filled, and the
--- directory of an image while it is copied. What a point goes on to after a close or a leave, it holds less that.
+-- directory of an image while it is copied. What a point goes on to after a close or a leave, it holds less that. By
+-- what is held some replies don't come.
 abbrev pub IsHeldAt : ℕ → Point → Held → Held → Type 0
 IsHeldAt lane (Asking path pin) base now = now ≡ base
 IsHeldAt lane (Reading dir prior) base now = IsOpen lane dir base now
@@ -43,7 +44,7 @@ IsHeldAt lane (Activating dir sys) base now = IsStaged lane dir (Sealed sys) bas
 IsHeldAt lane (Closing dir next) base now = (less : Held) × IsHeldAt lane next base less × WithDir lane dir less now
 IsHeldAt lane (Leaving next) base now =
     (less : Held) × IsHeldAt lane next base less × ((phase : Phase) × WithStage phase less now)
-IsHeldAt lane (Ended reply) base now = now ≡ base
+IsHeldAt lane (Ended reply) base now = CanCome reply × (now ≡ base)
 
 -- so it is at this desk, and the lane fetches nothing
 pub record HoldsAt (point : Point) (v : View) : Type 0 where

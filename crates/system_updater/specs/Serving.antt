@@ -262,3 +262,9 @@ pub record Serves (path : NameAndVariant) (pin : Option Root) (run : List Number
   pub legs : List (List Numbered)
   pub whole : run ≡ joined legs
   pub leads : Leads (Asking path pin) legs (Ended reply)
+
+-- The slot that was taken can't be booted, and the directories of an update are open: two replies never come.
+abbrev pub CanCome : UpdateReply → Type 0
+CanCome replies.SlotInUse = ⊥
+CanCome replies.BadDir = ⊥
+CanCome reply = Unit {0}

@@ -11,7 +11,7 @@ use Rattle.store_model.specs.Desk.{View, Stays, held_by}
 use Rattle.resolver.specs.Counting.{grants, failures, counted}
 use Rattle.resolver.specs.Fetched.{Lists, Tells}
 use Rattle.resolver.specs.Viewing.{Agrees}
-use Rattle.system_updater.specs.Serving.{Serves}
+use Rattle.system_updater.specs.Serving.{Serves, CanCome}
 use Rattle.system_updater.specs.declared.reply.UpdateReply.{UpdateReply}
 
 -- what is seen of a repository
@@ -55,6 +55,7 @@ pub record Updates (path : NameAndVariant) (pin : Option Root) (reply : UpdateRe
   pub run : List Numbered
   pub grows : new.mine ≡ old.mine ++ run
   pub serves : Serves path pin run reply
+  pub comes : CanCome reply
   pub held : held_by new ≡ held_by old
   pub asked : repo_now.fetches ≡ counted (grants run) repo.fetches
   pub failed : RoseBy (failures run) repo.faults repo_now.faults

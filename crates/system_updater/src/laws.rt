@@ -1,4 +1,4 @@
-//! What a run of an update is, in other words. Each function has an empty body: its contract is the law.
+//! What a run of an update is, in other words. The contract of each function is the law, and its body does nothing.
 
 ghost use Rattle.std.specs.Prelude.{List, Option};
 ghost use Rattle.abr_record.specs.declared.Slot.{Slot as SlotOf};
@@ -10,6 +10,8 @@ ghost use Rattle.system_updater.specs.declared.reply.UpdateReply.TheVariants as 
 ghost use Rattle.system_updater.specs.Serving.{Serves};
 ghost use Rattle.system_updater.specs.Laws.{IsInOrder};
 ghost use Rattle.system_updater.specs.Causes.{HasCause};
+
+use update_manifest::images_name_files;
 
 /// A run that ends staged asks for one package, takes a slot, retains packages before it asks for any other, and
 /// then seals the slot, makes it the one that boots next, and leaves it: each once, in this order.
@@ -23,4 +25,6 @@ pub fn staged_updates_are_in_order()
 pub fn replies_have_causes()
     ensures { (path : NameAndVariant) (pin : Option Root) (run : List Numbered) (reply : ReplyOf)
         → Serves path pin run reply → HasCause reply run }
-{}
+{
+    images_name_files();
+}

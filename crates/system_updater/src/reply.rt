@@ -66,9 +66,9 @@ pub enum UpdateReply {
     NoMemory,
     /// No update begins in recovery.
     InRecovery,
-    /// Nothing is retained while another slot can be booted.
+    /// Nothing is retained while another slot can be booted. It is never replied.
     SlotInUse,
-    /// A directory isn't open.
+    /// A directory isn't open. It is never replied.
     BadDir,
 }
 

@@ -20,7 +20,7 @@ unnamed kind from file v F none dir plan task later repo same named =
     subst (λ (k : ImageKind). Goes (Copying dir plan task from later) (image_left dir from (replies.NoFile k)) v v repo repo F F) same
     (goes_pass (Copying dir plan task from later) (image_left dir from (replies.NoFile task.kind)) v repo F
     (subst (λ (o : Option (List ℕ)). Copies dir plan task from later o [] (image_left dir from (replies.NoFile task.kind))) (sym (named ∙ none)) (refl, refl))
-    (λ base at. image_is_left v.lane dir plan task from later (replies.NoFile task.kind) base (held_by v) at))
+    (λ base at. image_is_left v.lane dir plan task from later (replies.NoFile task.kind) base (held_by v) tt at))
 
 pub returns-in-Some : goal.returns-in-Some
 returns-in-Some g c = λ dir plan task later repo kind named. c.copy_file.ensures dir plan task later repo kind (named ∙ c.in-Some.is)

@@ -51,7 +51,7 @@ answered dir file name path reply old new F G same named does firm prior repo is
 
 pub returns-in_default : goal.returns-in_default
 returns-in_default g c = λ prior repo is.
-    goes_pass (Reading c.args.dir prior) (closed c.args.dir replies.NoMemory) (g.K.Desk.view c.args.desk.now) repo (g.K.Desk.firm c.args.desk.now) (inr (refl, refl)) (λ base h. open_closed _ c.args.dir replies.NoMemory base _ h)
+    goes_pass (Reading c.args.dir prior) (closed c.args.dir replies.NoMemory) (g.K.Desk.view c.args.desk.now) repo (g.K.Desk.firm c.args.desk.now) (inr (refl, refl)) (λ base h. open_closed _ c.args.dir replies.NoMemory base _ tt h)
 
 pub returns-in-Got : goal.returns-in-Got
 returns-in-Got g c =

@@ -15,7 +15,7 @@ use Rattle.system_updater.proofs.packages.fetch.Goals as goal
 pub returns-in_default : goal.returns-in_default
 returns-in_default g c = λ dir plan later at.
     goes_pass (Fetching dir plan (c.args.pinned.now ∷ later)) (left dir replies.NoMemory) (g.K.Desk.view c.args.desk.now) (told (g.R.Repo.listing c.args.repo.now) (g.R.Repo.files c.args.repo.now) (g.R.Repo.faults c.args.repo.now) (g.R.Repo.fetches c.args.repo.now)) (g.K.Desk.firm c.args.desk.now) (inr (refl, refl))
-    (λ base is. staged_left _ dir Fills replies.NoMemory base (held_by (g.K.Desk.view c.args.desk.now)) is)
+    (λ base is. staged_left _ dir Fills replies.NoMemory base (held_by (g.K.Desk.view c.args.desk.now)) tt is)
 
 pub returns-in-Resolved : goal.returns-in-Resolved
 returns-in-Resolved g c = λ dir plan later at.

@@ -28,7 +28,7 @@ by_roots packages roots reply old new F G is firm roots_is dir plan repo same =
 pub returns-in_default : goal.returns-in_default
 returns-in_default g c = λ dir plan repo same.
     goes_pass (Retaining dir plan) (left dir replies.NoMemory) (g.K.Desk.view c.args.desk.now) repo (g.K.Desk.firm c.args.desk.now) (inr (refl, refl))
-    (λ base at. staged_left _ dir Fills replies.NoMemory base (held_by (g.K.Desk.view c.args.desk.now)) at)
+    (λ base at. staged_left _ dir Fills replies.NoMemory base (held_by (g.K.Desk.view c.args.desk.now)) tt at)
 
 pub returns-in-Done : goal.returns-in-Done
 returns-in-Done g c = λ dir plan repo same.
