@@ -1,7 +1,9 @@
--- A directory that the lane holds is open, and the slot that it fills can't be booted.
-use Rattle.std.proofs.Common.{◌≡◌, ℕ, Bool, true, false, List, ◌++◌, Option, Some, None, refl, sym, ap, subst, ◌∙◌}
+-- A directory that the lane holds is open, so no recovery runs, and the slot that it fills can't be booted.
+use Rattle.std.proofs.Common.{◌≡◌, ℕ, Bool, true, false, not, List, [], ◌++◌, Option, Some, None, refl, sym, ap, subst, ◌∙◌}
 use Rattle.std.specs.Prelude.{IfSome, if◌then◌else◌, nat_lt}
+use Rattle.abr_record.specs.declared.Slot.{Slot}
 use Rattle.image_layout.specs.declared.ImageKind.{ImageKind}
+use Rattle.open_tracker.specs.declared.dirs.DirEntry.{DirEntry}
 use Rattle.open_tracker.specs.Directories.{root_of}
 use Rattle.far_archive.specs.Named.{file_named}
 use Rattle.package_book.specs.Book.{MetaAndFiles, outer_at}
@@ -11,27 +13,31 @@ use Rattle.store_model.specs.declared.ends.ReadEnd.TheVariants as reads
 use Rattle.store_model.specs.declared.ends.CopyEnd.{CopyEnd}
 use Rattle.store_model.specs.declared.ends.CopyEnd.TheVariants as copies
 use Rattle.store_model.specs.declared.ends.RetainEnd.TheVariants as retains
+use Rattle.store_model.specs.declared.ends.StageEnd.TheVariants as stages
 use Rattle.store_model.specs.declared.replies.Dir.{Dir}
 use Rattle.store_model.specs.declared.replies.ReadReply.TheVariants as read
 use Rattle.store_model.specs.declared.replies.CopyReply.TheVariants as copy
 use Rattle.store_model.specs.declared.replies.RetainReply.TheVariants as retain
+use Rattle.store_model.specs.declared.replies.StageReply.TheVariants as stage
 use Rattle.store_model.specs.Acts.Copy.{area, too_large, copy_end_of}
 use Rattle.store_model.specs.Acts.Read.{IsReadFrom}
+use Rattle.store_model.specs.Acts.Stage.{held_answer}
 use Rattle.store_model.specs.Desk as desk
 use Rattle.store_model.specs.Desk.{View, held_by}
 use Rattle.store_model.specs.Files.{Found, found, found_at, found_of, found_in, found_outer, found_len}
 use Rattle.store_model.specs.Files.Found.{NotOpen, NoSuchFile, Inner, Outer}
 use Rattle.store_model.specs.History.{after}
 use Rattle.store_model.specs.Holding.{Held}
-use Rattle.store_model.specs.Replies.{IsRead, IsCopied, IsRetained}
+use Rattle.store_model.specs.Replies.{IsRead, IsCopied, IsRetained, IsStaged as IsStagedBy}
 use Rattle.store_model.specs.Packages.{known_book}
 use Rattle.store_model.specs.Sound.{IsInPhase, IsUnderWay}
-use Rattle.store_model.specs.State.{State, Stage, stored_len}
+use Rattle.store_model.specs.State.{State, Stage, stored_len, is_committed, is_recovery, running_epoch, other_slot}
 use Rattle.store_model.specs.State.Phase.{Filling as Fills}
 use Rattle.store_model.proofs.Sound.{stage_after}
 use Rattle.store_model.proofs.Views.{legal_before-Does, there_before-Does}
 use Rattle.system_updater.specs.Holding.{WithDir, IsStaged}
 use Rattle.system_updater.proofs.Closes.{act_due, open_there}
+use Rattle.system_updater.proofs.Recovery.{bare_after}
 
 -- ---- a file is looked for in an open directory
 
@@ -103,3 +109,31 @@ never_in_use A dir roots count base old new does is =
     let under_way : IsUnderWay s = subst (λ (o : Option Stage). IfSome o (λ (st : Stage). IsInPhase s st.phase)) stage (stage_after old.origin (old.seen ++ does.others) (legal_before-Does old new IsIts does)) in
     let due = act_due old new IsIts does (acts.Retain roots retains.SlotInUse does.its.0) does.its.1 in
     absurd (cc (due, under_way.other))
+
+-- ---- no update begins in recovery
+
+if_older : (A : Type 0) (committed older : Bool) (have : ℕ) (slot : Slot)
+    → stages.InRecovery ≡ (if not committed then stages.NotCommitted else if older then stages.Older have else stages.Turn slot) → A
+if_older A false older have slot is = absurd (cc is)
+if_older A true true have slot is = absurd (cc is)
+if_older A true false have slot is = absurd (cc is)
+
+by_stage : (A : Type 0) (s : State) (epoch : ℕ) (held : Option Stage) → stages.InRecovery ≡ held_answer s epoch held → A
+by_stage A s epoch (Some held) is = absurd (cc is)
+by_stage A s epoch None is = if_older A (is_committed s) (nat_lt epoch (running_epoch s)) (running_epoch s) (other_slot s.running) is
+
+in_recovery : (s : State) (epoch : ℕ) (recovery : Bool) → stages.InRecovery ≡ (if recovery then stages.InRecovery else held_answer s epoch s.stage) → recovery ≡ true
+in_recovery s epoch true is = refl
+in_recovery s epoch false is = by_stage (false ≡ true) s epoch s.stage is
+
+none_open : (A : Type 0) (dirs : List DirEntry) (dir lane : ℕ) (root : Root) → dirs ≡ [] → root_of dirs dir lane ≡ Some root → A
+none_open A dirs dir lane root none there = absurd (cc (sym (ap (λ (ds : List DirEntry). root_of ds dir lane) none) ∙ there))
+
+pub never_in_recovery : (A : Type 0) (epoch : ℕ) (dir : Dir) (less : Held) (old new : View) → desk.Does old new (IsStagedBy epoch stage.InRecovery) → WithDir old.lane dir less (held_by old) → A
+never_in_recovery A epoch dir less old new does is =
+    let IsIts = IsStagedBy epoch stage.InRecovery in
+    let s = after old.origin (old.seen ++ does.others) in
+    let there = open_there old.lane dir less (held_by old) is in
+    let due = act_due old new IsIts does (acts.Stage epoch stages.InRecovery) does.its in
+    let bare = bare_after old.origin (old.seen ++ does.others) (legal_before-Does old new IsIts does) (in_recovery s epoch (is_recovery s.running) due) in
+    none_open A s.dirs dir.number old.lane there.0 bare.dirs (sym ((there_before-Does old new IsIts does).dir dir.number) ∙ there.1)

@@ -50,7 +50,7 @@ use Rattle.system_updater.specs.Viewing.{Told}
 use Rattle.system_updater.specs.Steps.{Goes, IsRefusal}
 use Rattle.system_updater.proofs.Goes.{IsPlainEvent, plain_by, read_plain, retain_plain, does_event, does_rest, goes_leg}
 use Rattle.system_updater.proofs.Closes.{none_staged, unstaged, closed_less, never_bad, never_short}
-use Rattle.system_updater.proofs.Alive.{read_never_bad, copy_never_bad, never_in_use}
+use Rattle.system_updater.proofs.Alive.{read_never_bad, copy_never_bad, never_in_use, never_in_recovery}
 use Rattle.system_updater.proofs.Places.{open_closed, staged_left, restaged, same_held, judged_open}
 
 module _ (old new : View) (repo : Told) (F G : Type 0) where
@@ -163,7 +163,9 @@ module _ (dir : Dir) (plan : Plan) (old new : View) (repo : Told) (F G : Type 0)
       let held = staged plan.epoch (stage.Turn slot) old new is in
       stage_event (stage.Turn slot) is (ap (λ (h : Held). h.claim) held) firm
       (λ base opened. (held_by old, opened, record { none = none_staged plan.epoch slot old new is; is = held }))
-  stage_goes stage.InRecovery is firm = stage_refused stage.InRecovery replies.InRecovery is (staged plan.epoch stage.InRecovery old new is) firm tt refl
+  stage_goes stage.InRecovery is firm =
+      stage_event stage.InRecovery is (ap (λ (h : Held). h.claim) (staged plan.epoch stage.InRecovery old new is)) firm
+      (λ base opened. never_in_recovery (IsHeldAt old.lane (closed dir replies.InRecovery) base (held_by new)) plan.epoch dir base old new is opened)
   stage_goes (stage.Busy lane) is firm = stage_refused (stage.Busy lane) (replies.Busy lane) is (staged plan.epoch (stage.Busy lane) old new is) firm tt refl
   stage_goes stage.NotCommitted is firm = stage_refused stage.NotCommitted replies.NotCommitted is (staged plan.epoch stage.NotCommitted old new is) firm tt refl
   stage_goes (stage.Older have) is firm = stage_refused (stage.Older have) (replies.Epoch have plan.epoch) is (staged plan.epoch (stage.Older have) old new is) firm tt refl

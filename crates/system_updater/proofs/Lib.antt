@@ -2,6 +2,7 @@ pub mod Goes
 pub mod Places
 pub mod Closes
 pub mod Alive
+pub mod Recovery
 pub mod Desks
 pub mod Wholes
 pub mod Judging

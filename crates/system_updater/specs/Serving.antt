@@ -263,8 +263,10 @@ pub record Serves (path : NameAndVariant) (pin : Option Root) (run : List Number
   pub whole : run ≡ joined legs
   pub leads : Leads (Asking path pin) legs (Ended reply)
 
--- The slot that was taken can't be booted, and the directories of an update are open: two replies never come.
+-- The slot that was taken can't be booted, the directories of an update are open, and in recovery none would be:
+-- three replies never come.
 abbrev pub CanCome : UpdateReply → Type 0
+CanCome replies.InRecovery = ⊥
 CanCome replies.SlotInUse = ⊥
 CanCome replies.BadDir = ⊥
 CanCome reply = Unit {0}

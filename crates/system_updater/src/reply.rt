@@ -64,7 +64,7 @@ pub enum UpdateReply {
         number: u64,
     },
     NoMemory,
-    /// No update begins in recovery.
+    /// No update begins in recovery. It is never replied: the resolve before is refused.
     InRecovery,
     /// Nothing is retained while another slot can be booted. It is never replied.
     SlotInUse,
