@@ -10,3 +10,6 @@ pub mod Marks
 pub mod Staged
 pub mod Named
 pub mod Causes
+pub mod Stays
+pub mod Parts
+pub mod Grown

@@ -1,6 +1,7 @@
 //! The ends of what an update holds.
 
 ghost use Rattle.store_model.specs.Calls.{HoldsAnyStage};
+ghost use Rattle.store_model.specs.Desk.{KeepsImages};
 ghost use Rattle.system_updater.specs.Serving.{Point};
 ghost use Rattle.system_updater.specs.Serving.Point.{Closing, Leaving};
 ghost use Rattle.system_updater.specs.Holding.{HoldsAt};
@@ -11,9 +12,10 @@ use store_model::{Desk, Dir};
 
 // Closes a directory that is open.
 pub(crate) fn close<K: Desk>(desk: &mut K, dir: Dir)
-    ensures { (next : Point) (repo : Told) → HoldsAt (Closing dir next) (K.view desk.old)
+    ensures goes { (next : Point) (repo : Told) → HoldsAt (Closing dir next) (K.view desk.old)
         → Goes (Closing dir next) next (K.view desk.old) (K.view desk.new) repo repo
         (K.firm desk.old) (K.firm desk.new) }
+    ensures images { KeepsImages (K.kept desk.old) (K.kept desk.new) }
 {
     let _ = desk.close(dir);
 }

@@ -1,6 +1,6 @@
 //! The manifests of an update package: they are read and judged one after the other.
 
-ghost use Rattle.std.specs.Prelude.{◌≡◌, ◌≤◌, length, IfOk, Option, List, ℕ, IsTrue};
+ghost use Rattle.std.specs.Prelude.{◌≡◌, ◌≤◌, length, IfOk, IfErr, IfSome, Option, List, ℕ, IsTrue};
 ghost use Rattle.pkg_names.specs.declared.pinned.Pinned.{Pinned as PinnedOf};
 ghost use Rattle.system_lists.specs.declared.list.TheConstants.{ENTRY_LIMIT};
 ghost use Rattle.store_model.specs.declared.replies.Dir.{Dir as DirOf};
@@ -9,6 +9,7 @@ ghost use Rattle.system_updater.specs.Serving.{Prior, next_file, closed, judged}
 ghost use Rattle.system_updater.specs.Serving.Prior.{NothingRead, EpochRead, PackagesRead};
 ghost use Rattle.system_updater.specs.Serving.Point.{Reading, Staging};
 ghost use Rattle.system_updater.specs.Viewing.{Told};
+ghost use Rattle.system_updater.specs.Filled.{Did, ReadsFile, ReadsImages, IsEarly, EarlyRefusal, OrEarly, OrBad};
 ghost use Rattle.system_updater.specs.Steps.{Goes, at_refusal, or_refused, or_closed, Judges, refusal_with};
 
 use crate::plan::Plan;
@@ -35,6 +36,7 @@ pub(crate) fn read_plan<K: Desk>(alloc: Global, desk: &mut K, dir: Dir) -> Resul
     ensures goes { (repo : Told) → Goes (Reading dir NothingRead) (or_closed (Staging dir) dir result)
         (K.view desk.old) (K.view desk.new) repo repo (K.firm desk.old) (K.firm desk.new) }
     ensures few { IfOk result (λ plan. length plan.packages ≤ ENTRY_LIMIT) }
+    ensures images { OrEarly (λ plan. Did (K.view desk.old) (K.view desk.new) (ReadsImages plan.images)) result }
 {
     match read_all(alloc, desk, dir) {
         Ok(plan) => Ok(plan),
@@ -44,8 +46,9 @@ pub(crate) fn read_plan<K: Desk>(alloc: Global, desk: &mut K, dir: Dir) -> Resul
 
 // Tells that a manifest is bad.
 fn refuse<K: Desk>(desk: &mut K, refusal: Refusal) -> UpdateReply
-    ensures { (dir : DirOf) (repo : Told) → Goes (at_refusal dir refusal) (closed dir result)
+    ensures goes { (dir : DirOf) (repo : Told) → Goes (at_refusal dir refusal) (closed dir result)
         (K.view desk.old) (K.view desk.new) repo repo (K.firm desk.old) (K.firm desk.new) }
+    ensures early { EarlyRefusal refusal → IsEarly result }
 {
     match refusal {
         Refusal::Bad { file, why } => match desk.reject(file, why) {
@@ -61,6 +64,7 @@ fn read_all<K: Desk>(alloc: Global, desk: &mut K, dir: Dir) -> Result<Plan, Refu
     ensures goes { (repo : Told) → Goes (Reading dir NothingRead) (or_refused (Staging dir) dir result)
         (K.view desk.old) (K.view desk.new) repo repo (K.firm desk.old) (K.firm desk.new) }
     ensures few { IfOk result (λ plan. length plan.packages ≤ ENTRY_LIMIT) }
+    ensures images { OrBad (λ plan. Did (K.view desk.old) (K.view desk.new) (ReadsImages plan.images)) result }
 {
     let epoch = epoch_of(alloc, desk, dir)?;
     let packages = packages_of(alloc, desk, dir)?;
@@ -73,9 +77,10 @@ fn read_all<K: Desk>(alloc: Global, desk: &mut K, dir: Dir) -> Result<Plan, Refu
 }
 
 fn epoch_of<K: Desk>(alloc: Global, desk: &mut K, dir: Dir) -> Result<u64, Refusal>
-    ensures { (repo : Told) → Goes (Reading dir NothingRead)
+    ensures goes { (repo : Told) → Goes (Reading dir NothingRead)
         (or_refused (λ epoch. Reading dir (EpochRead epoch)) dir result)
         (K.view desk.old) (K.view desk.new) repo repo (K.firm desk.old) (K.firm desk.new) }
+    ensures early { IfErr result EarlyRefusal }
 {
     let found = read_manifest(alloc, desk, dir, ManifestFile::Epoch)?;
     judge_epoch(alloc, found)
@@ -86,15 +91,17 @@ fn packages_of<K: Desk>(alloc: Global, desk: &mut K, dir: Dir) -> Result<PinnedL
         (or_refused (λ packages. Reading dir (PackagesRead epoch packages)) dir result)
         (K.view desk.old) (K.view desk.new) repo repo (K.firm desk.old) (K.firm desk.new) }
     ensures few { IfOk result (λ packages. length packages ≤ ENTRY_LIMIT) }
+    ensures early { IfErr result EarlyRefusal }
 {
     let found = read_manifest(alloc, desk, dir, ManifestFile::Packages)?;
     judge_packages(alloc, found)
 }
 
 fn images_of<K: Desk>(alloc: Global, desk: &mut K, dir: Dir) -> Result<Images, Refusal>
-    ensures { (epoch : ℕ) (packages : List PinnedOf) (repo : Told) → Goes (Reading dir (PackagesRead epoch packages))
+    ensures goes { (epoch : ℕ) (packages : List PinnedOf) (repo : Told) → Goes (Reading dir (PackagesRead epoch packages))
         (or_refused (λ images. Staging dir (record { epoch = epoch; packages = packages; images = images })) dir result)
         (K.view desk.old) (K.view desk.new) repo repo (K.firm desk.old) (K.firm desk.new) }
+    ensures images { OrBad (λ images. Did (K.view desk.old) (K.view desk.new) (ReadsImages images)) result }
 {
     let found = read_manifest(alloc, desk, dir, ManifestFile::Images)?;
     judge_images(alloc, found)
@@ -118,9 +125,11 @@ fn read_manifest<K: Desk>(
     dir: Dir,
     file: ManifestFile,
 ) -> Result<Option<Bytes>, Refusal>
-    ensures { (prior : Prior) (repo : Told) → next_file prior ≡ file
+    ensures goes { (prior : Prior) (repo : Told) → next_file prior ≡ file
         → Goes (Reading dir prior) (or_refused (judged dir prior) dir result)
         (K.view desk.old) (K.view desk.new) repo repo (K.firm desk.old) (K.firm desk.new) }
+    ensures images { OrBad (λ found. IfSome found (λ bytes. Did (K.view desk.old) (K.view desk.new)
+        (ReadsFile (name_of file) bytes))) result }
 {
     let Ok(path) = read_file(alloc, name_of(file)) else {
         return Err(Refusal::Ended(UpdateReply::NoMemory));

@@ -5,11 +5,13 @@ ghost use Rattle.pkg_names.specs.declared.pinned.Pinned.{Pinned as PinnedOf};
 ghost use Rattle.system_lists.specs.declared.list.TheConstants.{ENTRY_LIMIT};
 ghost use Rattle.store_model.specs.declared.replies.Dir.{Dir as DirOf};
 ghost use Rattle.store_model.specs.Calls.{HoldsNoClaim};
+ghost use Rattle.store_model.specs.Desk.{KeepsImages};
 ghost use Rattle.system_updater.specs.declared.plan.Plan.{Plan as PlanOf};
 ghost use Rattle.system_updater.specs.Plan.{roots_of};
 ghost use Rattle.system_updater.specs.Serving.Point.{Retaining, Fetching};
 ghost use Rattle.system_updater.specs.Holding.{HoldsAt};
 ghost use Rattle.system_updater.specs.Viewing.{Told, told};
+ghost use Rattle.system_updater.specs.Filled.{OrEarly};
 ghost use Rattle.system_updater.specs.Steps.{Goes, or_left, IsFetching};
 
 use crate::closing::close;
@@ -29,9 +31,10 @@ pub(crate) fn retain<K: Desk>(
     packages: &[Pinned],
 ) -> Result<(), UpdateReply>
     requires { length packages.now ≤ ENTRY_LIMIT }
-    ensures { (dir : DirOf) (plan : PlanOf) (repo : Told) → plan.packages ≡ packages.now
+    ensures goes { (dir : DirOf) (plan : PlanOf) (repo : Told) → plan.packages ≡ packages.now
         → Goes (Retaining dir plan) (or_left (λ done. Fetching dir plan plan.packages) dir result)
         (K.view desk.old) (K.view desk.new) repo repo (K.firm desk.old) (K.firm desk.new) }
+    ensures images { OrEarly (λ done. KeepsImages (K.kept desk.old) (K.kept desk.new)) result }
 {
     let Ok(roots) = roots_of(alloc, packages) else {
         return Err(UpdateReply::NoMemory);
@@ -61,12 +64,13 @@ pub(crate) fn fetch_all<W: Wait, K: Desk, R: Repo>(
     packages: &[Pinned],
 ) -> Result<(), UpdateReply>
     requires { IsFetching packages.now (K.view desk.old) }
-    ensures { (dir : DirOf) (plan : PlanOf) → HoldsAt (Fetching dir plan packages.now) (K.view desk.old)
+    ensures goes { (dir : DirOf) (plan : PlanOf) → HoldsAt (Fetching dir plan packages.now) (K.view desk.old)
         → Goes (Fetching dir plan packages.now) (or_left (λ done. Fetching dir plan []) dir result)
         (K.view desk.old) (K.view desk.new)
         (told (R.listing repo.old) (R.files repo.old) (R.faults repo.old) (R.fetches repo.old))
         (told (R.listing repo.new) (R.files repo.new) (R.faults repo.new) (R.fetches repo.new))
         (K.firm desk.old) (K.firm desk.new) }
+    ensures images { OrEarly (λ done. KeepsImages (K.kept desk.old) (K.kept desk.new)) result }
 {
     for pinned in packages {
         fetch(rt, alloc, desk, repo, pinned)?;
@@ -83,13 +87,14 @@ fn fetch<W: Wait, K: Desk, R: Repo>(
     pinned: &Pinned,
 ) -> Result<(), UpdateReply>
     requires { HoldsNoClaim (K.view desk.old) }
-    ensures { (dir : DirOf) (plan : PlanOf) (later : List PinnedOf)
+    ensures goes { (dir : DirOf) (plan : PlanOf) (later : List PinnedOf)
         → HoldsAt (Fetching dir plan (pinned.now ∷ later)) (K.view desk.old)
         → Goes (Fetching dir plan (pinned.now ∷ later)) (or_left (λ done. Fetching dir plan later) dir result)
         (K.view desk.old) (K.view desk.new)
         (told (R.listing repo.old) (R.files repo.old) (R.faults repo.old) (R.fetches repo.old))
         (told (R.listing repo.new) (R.files repo.new) (R.faults repo.new) (R.fetches repo.new))
         (K.firm desk.old) (K.firm desk.new) }
+    ensures images { OrEarly (λ done. KeepsImages (K.kept desk.old) (K.kept desk.new)) result }
 {
     let Ok(path) = pinned.path.try_copy(alloc) else {
         return Err(UpdateReply::NoMemory);

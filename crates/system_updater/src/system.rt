@@ -1,6 +1,7 @@
 //! The slot of the next system: it is taken, sealed, and made the one that boots next.
 
 ghost use Rattle.std.specs.Prelude.{◌≡◌, []};
+ghost use Rattle.image_layout.specs.declared.ImageKind.TheVariants as kinds;
 ghost use Rattle.image_layout.specs.declared.Sys.{Sys as SysOf};
 ghost use Rattle.pkg_names.specs.NameAndVariant.{path_eq};
 ghost use Rattle.repo_source.specs.Repo.{listed_root};
@@ -8,11 +9,13 @@ ghost use Rattle.system_lists.specs.Judging.{system_path};
 ghost use Rattle.store_model.specs.declared.replies.Dir.{Dir as DirOf};
 ghost use Rattle.store_model.specs.State.Phase.{Filling as Fills};
 ghost use Rattle.store_model.specs.Calls.{HoldsStage, HoldsSealed};
+ghost use Rattle.store_model.specs.Desk.Keeping.{Image};
 ghost use Rattle.system_updater.specs.Plan.{system_root, sum_of, vbmeta_sum, sys_of};
 ghost use Rattle.system_updater.specs.declared.plan.Plan.{Plan as PlanOf};
 ghost use Rattle.system_updater.specs.Serving.{left};
 ghost use Rattle.system_updater.specs.Serving.Point.{Staging, Retaining, Filling, Activating};
 ghost use Rattle.system_updater.specs.Viewing.{Told};
+ghost use Rattle.system_updater.specs.Filled.{OrEarly, SealsOf, IsJudged};
 ghost use Rattle.system_updater.specs.Steps.{Goes, or_closed, or_left};
 
 use crate::plan::Plan;
@@ -25,9 +28,11 @@ use update_manifest::ImageRef;
 
 // Takes the slot for a system of this epoch.
 pub(crate) fn stage<K: Desk>(desk: &mut K, epoch: u64) -> Result<(), UpdateReply>
-    ensures { (dir : DirOf) (plan : PlanOf) (repo : Told) → plan.epoch ≡ epoch
+    ensures goes { (dir : DirOf) (plan : PlanOf) (repo : Told) → plan.epoch ≡ epoch
         → Goes (Staging dir plan) (or_closed (λ done. Retaining dir plan) dir result)
         (K.view desk.old) (K.view desk.new) repo repo (K.firm desk.old) (K.firm desk.new) }
+    ensures images { OrEarly (λ done. K.kept desk.new (Image kinds.Zbi) [] × K.kept desk.new (Image kinds.Vbmeta) [])
+        result }
 {
     match desk.stage(epoch) {
         StageReply::Turn { .. } => Ok(()),
@@ -102,9 +107,10 @@ fn vbmeta_sum(image: &Option<ImageRef>) -> ImageSum
 // Seals the filled slot.
 pub(crate) fn seal<K: Desk>(desk: &mut K, sys: &Sys) -> Result<(), UpdateReply>
     requires { HoldsStage (K.view desk.old) Fills }
-    ensures { (dir : DirOf) (plan : PlanOf) (repo : Told) → sys_of plan ≡ sys.now
+    ensures goes { (dir : DirOf) (plan : PlanOf) (repo : Told) → sys_of plan ≡ sys.now
         → Goes (Filling dir plan []) (or_left (λ done. Activating dir (sys_of plan)) dir result)
         (K.view desk.old) (K.view desk.new) repo repo (K.firm desk.old) (K.firm desk.new) }
+    ensures images { SealsOf (K.kept desk.old) sys.now result }
 {
     match desk.seal(sys) {
         SealReply::Sealed => Ok(()),
@@ -117,8 +123,9 @@ pub(crate) fn seal<K: Desk>(desk: &mut K, sys: &Sys) -> Result<(), UpdateReply>
 // Makes the sealed slot the one that boots next.
 pub(crate) fn activate<K: Desk>(desk: &mut K) -> UpdateReply
     requires { HoldsSealed (K.view desk.old) }
-    ensures { (dir : DirOf) (sys : SysOf) (repo : Told) → Goes (Activating dir sys) (left dir result)
+    ensures goes { (dir : DirOf) (sys : SysOf) (repo : Told) → Goes (Activating dir sys) (left dir result)
         (K.view desk.old) (K.view desk.new) repo repo (K.firm desk.old) (K.firm desk.new) }
+    ensures images { IsJudged result }
 {
     match desk.activate() {
         ActivateReply::Active { slot } => UpdateReply::Staged { slot },

@@ -1,8 +1,10 @@
 //! A whole update.
 
-ghost use Rattle.std.specs.Prelude.{◌≡◌, ◌≤◌, ◌↔◌, length, None};
+ghost use Rattle.std.specs.Prelude.{◌≡◌, ◌≤◌, ◌↔◌, [], length, None};
 ghost use Rattle.system_lists.specs.declared.list.TheConstants.{ENTRY_LIMIT};
+ghost use Rattle.image_layout.specs.declared.ImageKind.TheVariants as kinds;
 ghost use Rattle.store_model.specs.declared.replies.Dir.{Dir as DirOf};
+ghost use Rattle.store_model.specs.Desk.Keeping.{Image};
 ghost use Rattle.store_model.specs.Calls.{HoldsNoClaim};
 ghost use Rattle.system_updater.specs.Plan.{sys_of};
 ghost use Rattle.system_updater.specs.Serving.{closed, left};
@@ -10,6 +12,7 @@ ghost use Rattle.system_updater.specs.Serving.Prior.{NothingRead};
 ghost use Rattle.system_updater.specs.Serving.Point.{Reading, Staging, Retaining, Activating};
 ghost use Rattle.system_updater.specs.Holding.{HoldsAt};
 ghost use Rattle.system_updater.specs.Viewing.{told, Updates};
+ghost use Rattle.system_updater.specs.Filled.{IsFilledBy, TellsOf, SlotOf};
 ghost use Rattle.system_updater.specs.Steps.{Goes, or_left, IsStaging, IsRetaining};
 
 use crate::closing::{close, leave};
@@ -41,6 +44,7 @@ pub fn update<W: Wait, K: Desk, R: Repo>(
     ensures run { Updates url.now.path url.now.pin result (K.view desk.old) (K.view desk.new)
         (told (R.listing repo.old) (R.files repo.old) (R.faults repo.old) (R.fetches repo.old))
         (told (R.listing repo.new) (R.files repo.new) (R.faults repo.new) (R.fetches repo.new)) }
+    ensures images { IsFilledBy (K.firm desk.old) (K.view desk.old) (K.view desk.new) result }
     ensures firm { K.firm desk.old ↔ K.firm desk.new }
 {
     match resolve(rt, alloc, desk, repo, url) {
@@ -62,11 +66,12 @@ fn update_from<W: Wait, K: Desk, R: Repo>(
     dir: Dir,
 ) -> UpdateReply
     requires { HoldsAt (Reading dir NothingRead) (K.view desk.old) }
-    ensures { Goes (Reading dir NothingRead) (closed dir result)
+    ensures goes { Goes (Reading dir NothingRead) (closed dir result)
         (K.view desk.old) (K.view desk.new)
         (told (R.listing repo.old) (R.files repo.old) (R.faults repo.old) (R.fetches repo.old))
         (told (R.listing repo.new) (R.files repo.new) (R.faults repo.new) (R.fetches repo.new))
         (K.firm desk.old) (K.firm desk.new) }
+    ensures images { IsFilledBy (K.firm desk.old) (K.view desk.old) (K.view desk.new) result }
 {
     match read_plan(alloc, desk, dir) {
         Ok(plan) => take_slot(rt, alloc, desk, repo, plan),
@@ -84,11 +89,13 @@ fn take_slot<W: Wait, K: Desk, R: Repo>(
 ) -> UpdateReply
     requires few { length plan.packages ≤ ENTRY_LIMIT }
     requires at { IsStaging plan (K.view desk.old) }
-    ensures { (dir : DirOf) → HoldsAt (Staging dir plan) (K.view desk.old) → Goes (Staging dir plan) (closed dir result)
+    ensures goes { (dir : DirOf) → HoldsAt (Staging dir plan) (K.view desk.old) → Goes (Staging dir plan) (closed dir result)
         (K.view desk.old) (K.view desk.new)
         (told (R.listing repo.old) (R.files repo.old) (R.faults repo.old) (R.fetches repo.old))
         (told (R.listing repo.new) (R.files repo.new) (R.faults repo.new) (R.fetches repo.new))
         (K.firm desk.old) (K.firm desk.new) }
+    ensures images { (dir : DirOf) → HoldsAt (Staging dir plan) (K.view desk.old)
+        → TellsOf (K.firm desk.old) (K.view desk.old) (K.view desk.new) plan.images result }
 {
     match stage(desk, plan.epoch) {
         Ok(()) => {
@@ -110,12 +117,15 @@ fn install<W: Wait, K: Desk, R: Repo>(
 ) -> UpdateReply
     requires few { length plan.packages ≤ ENTRY_LIMIT }
     requires at { IsRetaining plan (K.view desk.old) }
-    ensures { (dir : DirOf) → HoldsAt (Retaining dir plan) (K.view desk.old)
+    ensures goes { (dir : DirOf) → HoldsAt (Retaining dir plan) (K.view desk.old)
         → Goes (Retaining dir plan) (left dir result)
         (K.view desk.old) (K.view desk.new)
         (told (R.listing repo.old) (R.files repo.old) (R.faults repo.old) (R.fetches repo.old))
         (told (R.listing repo.new) (R.files repo.new) (R.faults repo.new) (R.fetches repo.new))
         (K.firm desk.old) (K.firm desk.new) }
+    ensures images { (dir : DirOf) → HoldsAt (Retaining dir plan) (K.view desk.old)
+        → K.kept desk.old (Image kinds.Zbi) [] → K.kept desk.old (Image kinds.Vbmeta) []
+        → TellsOf (K.firm desk.old) (K.view desk.old) (K.view desk.new) plan.images result }
 {
     match fill_slot(rt, alloc, desk, repo, plan) {
         Ok(()) => activate(desk),
@@ -133,12 +143,15 @@ fn fill_slot<W: Wait, K: Desk, R: Repo>(
 ) -> Result<(), UpdateReply>
     requires few { length plan.packages ≤ ENTRY_LIMIT }
     requires at { IsRetaining plan (K.view desk.old) }
-    ensures { (dir : DirOf) → HoldsAt (Retaining dir plan) (K.view desk.old)
+    ensures goes { (dir : DirOf) → HoldsAt (Retaining dir plan) (K.view desk.old)
         → Goes (Retaining dir plan) (or_left (λ done. Activating dir (sys_of plan)) dir result)
         (K.view desk.old) (K.view desk.new)
         (told (R.listing repo.old) (R.files repo.old) (R.faults repo.old) (R.fetches repo.old))
         (told (R.listing repo.new) (R.files repo.new) (R.faults repo.new) (R.fetches repo.new))
         (K.firm desk.old) (K.firm desk.new) }
+    ensures images { (dir : DirOf) → HoldsAt (Retaining dir plan) (K.view desk.old)
+        → K.kept desk.old (Image kinds.Zbi) [] → K.kept desk.old (Image kinds.Vbmeta) []
+        → SlotOf (K.firm desk.old) (K.view desk.old) (K.view desk.new) plan.images result }
 {
     let sys = sys_of(&plan);
     let Plan {

@@ -14,6 +14,7 @@ use Rattle.system_updater.specs.Serving.Point.{Copying}
 use Rattle.system_updater.specs.Viewing.{Told}
 use Rattle.system_updater.specs.Steps.{Goes, IsRefusal}
 use Rattle.system_updater.proofs.Desks.{copy_more, copy_whole, copy_refused}
+use Rattle.system_updater.proofs.Parts.{copied_more, copied_whole}
 use Rattle.system_updater.proofs.images.copy_part.Goals as goal
 
 -- of any task of this kind
@@ -79,3 +80,20 @@ returns-in-NoMemory-clause-goes g c =
 
 pub returns-in-NoMemory-clause-held : goal.returns-in-NoMemory-clause-held
 returns-in-NoMemory-clause-held g c = held_after_copy c.args.kind c.args.from.number c.args.file.now copy.NoMemory (g.K.Desk.view c.args.desk.now) (g.K.Desk.view c.copy_part.new.self) c.in-NoMemory.ensures.event
+
+pub returns-in-More-clause-images : goal.returns-in-More-clause-images
+returns-in-More-clause-images g c = λ root open_ begun.
+    let e = c.in-More.ensures in (
+      copied_more c.args.kind c.args.from.number c.args.file.now (g.K.Desk.view c.args.desk.now) (g.K.Desk.view c.copy_part.new.self) (g.K.Desk.kept c.args.desk.now) (g.K.Desk.kept c.copy_part.new.self) root e.event.0 open_ c.in-More.have e.kept begun,
+      e.kept.4.other,
+      e.event.0.stays.lane,
+      e.firm.0,
+    )
+
+pub returns-in-Whole-clause-images : goal.returns-in-Whole-clause-images
+returns-in-Whole-clause-images g c = λ root open_ begun.
+    let e = c.in-Whole.ensures in (
+      copied_whole c.args.kind c.args.from.number c.args.file.now (g.K.Desk.view c.args.desk.now) (g.K.Desk.view c.copy_part.new.self) (g.K.Desk.kept c.args.desk.now) (g.K.Desk.kept c.copy_part.new.self) root e.event.0 open_
+          (g.K.Desk.firm c.args.desk.now) c.in-Whole.len e.kept e.whole begun,
+      e.kept.4.other,
+    )

@@ -18,6 +18,7 @@ use Rattle.system_updater.specs.Steps.{Goes, or_refused}
 use Rattle.system_updater.proofs.Goes.{goes_pass}
 use Rattle.system_updater.proofs.Places.{open_closed}
 use Rattle.system_updater.proofs.Desks.{read_goes}
+use Rattle.system_updater.proofs.Grown.{did_read}
 use Rattle.system_updater.proofs.manifests.read_manifest.Goals as goal
 
 -- what is answered for a reply
@@ -49,46 +50,49 @@ answered dir file name path reply old new F G same named does firm prior repo is
     subst (λ (f : ManifestFile). Goes (Reading dir prior) (or_refused (judged dir prior) dir (answer f reply)) old new repo repo F G) is
     (subst (λ (p : Point). Goes (Reading dir prior) p old new repo repo F G) (same_point dir prior reply) (read_goes dir prior old new repo F G reply does_that firm))
 
-pub returns-in_default : goal.returns-in_default
-returns-in_default g c = λ prior repo is.
+pub returns-in_default-clause-goes : goal.returns-in_default-clause-goes
+returns-in_default-clause-goes g c = λ prior repo is.
     goes_pass (Reading c.args.dir prior) (closed c.args.dir replies.NoMemory) (g.K.Desk.view c.args.desk.now) repo (g.K.Desk.firm c.args.desk.now) (inr (refl, refl)) (λ base h. open_closed _ c.args.dir replies.NoMemory base _ tt h)
 
-pub returns-in-Got : goal.returns-in-Got
-returns-in-Got g c =
+pub returns-in-Got-clause-goes : goal.returns-in-Got-clause-goes
+returns-in-Got-clause-goes g c =
     answered c.args.dir c.args.file c.name_of.result.now c.in-Ok.path (read.Got c.in-Got.bytes) (g.K.Desk.view c.args.desk.now) (g.K.Desk.view c.read.new.self) (g.K.Desk.firm c.args.desk.now) (g.K.Desk.firm c.read.new.self)
     c.in-Ok.ensures.found c.name_of.ensures c.in-Got.ensures.event c.in-Got.ensures.firm
 
-pub returns-in-NoFile : goal.returns-in-NoFile
-returns-in-NoFile g c =
+pub returns-in-NoFile-clause-goes : goal.returns-in-NoFile-clause-goes
+returns-in-NoFile-clause-goes g c =
     answered c.args.dir c.args.file c.name_of.result.now c.in-Ok.path read.NoFile (g.K.Desk.view c.args.desk.now) (g.K.Desk.view c.read.new.self) (g.K.Desk.firm c.args.desk.now) (g.K.Desk.firm c.read.new.self)
     c.in-Ok.ensures.found c.name_of.ensures c.in-NoFile.ensures.event c.in-NoFile.ensures.firm
 
-pub returns-in-TooLong : goal.returns-in-TooLong
-returns-in-TooLong g c =
+pub returns-in-TooLong-clause-goes : goal.returns-in-TooLong-clause-goes
+returns-in-TooLong-clause-goes g c =
     answered c.args.dir c.args.file c.name_of.result.now c.in-Ok.path (read.TooLong c.in-TooLong.len) (g.K.Desk.view c.args.desk.now) (g.K.Desk.view c.read.new.self) (g.K.Desk.firm c.args.desk.now) (g.K.Desk.firm c.read.new.self)
     c.in-Ok.ensures.found c.name_of.ensures c.in-TooLong.ensures.event c.in-TooLong.ensures.firm
 
-pub returns-in-BadDir : goal.returns-in-BadDir
-returns-in-BadDir g c =
+pub returns-in-BadDir-clause-goes : goal.returns-in-BadDir-clause-goes
+returns-in-BadDir-clause-goes g c =
     answered c.args.dir c.args.file c.name_of.result.now c.in-Ok.path read.BadDir (g.K.Desk.view c.args.desk.now) (g.K.Desk.view c.read.new.self) (g.K.Desk.firm c.args.desk.now) (g.K.Desk.firm c.read.new.self)
     c.in-Ok.ensures.found c.name_of.ensures c.in-BadDir.ensures.event c.in-BadDir.ensures.firm
 
-pub returns-in-DiskRead : goal.returns-in-DiskRead
-returns-in-DiskRead g c =
+pub returns-in-DiskRead-clause-goes : goal.returns-in-DiskRead-clause-goes
+returns-in-DiskRead-clause-goes g c =
     answered c.args.dir c.args.file c.name_of.result.now c.in-Ok.path read.DiskRead (g.K.Desk.view c.args.desk.now) (g.K.Desk.view c.read.new.self) (g.K.Desk.firm c.args.desk.now) (g.K.Desk.firm c.read.new.self)
     c.in-Ok.ensures.found c.name_of.ensures c.in-DiskRead.ensures.event c.in-DiskRead.ensures.firm
 
-pub returns-in-Rotten : goal.returns-in-Rotten
-returns-in-Rotten g c =
+pub returns-in-Rotten-clause-goes : goal.returns-in-Rotten-clause-goes
+returns-in-Rotten-clause-goes g c =
     answered c.args.dir c.args.file c.name_of.result.now c.in-Ok.path (read.Rotten c.in-Rotten.root c.in-Rotten.got) (g.K.Desk.view c.args.desk.now) (g.K.Desk.view c.read.new.self) (g.K.Desk.firm c.args.desk.now) (g.K.Desk.firm c.read.new.self)
     c.in-Ok.ensures.found c.name_of.ensures c.in-Rotten.ensures.event c.in-Rotten.ensures.firm
 
-pub returns-in-Broken : goal.returns-in-Broken
-returns-in-Broken g c =
+pub returns-in-Broken-clause-goes : goal.returns-in-Broken-clause-goes
+returns-in-Broken-clause-goes g c =
     answered c.args.dir c.args.file c.name_of.result.now c.in-Ok.path (read.Broken c.in-Broken.number) (g.K.Desk.view c.args.desk.now) (g.K.Desk.view c.read.new.self) (g.K.Desk.firm c.args.desk.now) (g.K.Desk.firm c.read.new.self)
     c.in-Ok.ensures.found c.name_of.ensures c.in-Broken.ensures.event c.in-Broken.ensures.firm
 
-pub returns : goal.returns
-returns g c =
+pub returns-clause-goes : goal.returns-clause-goes
+returns-clause-goes g c =
     answered c.args.dir c.args.file c.name_of.result.now c.in-Ok.path read.NoMemory (g.K.Desk.view c.args.desk.now) (g.K.Desk.view c.read.new.self) (g.K.Desk.firm c.args.desk.now) (g.K.Desk.firm c.read.new.self)
     c.in-Ok.ensures.found c.name_of.ensures c.in-NoMemory.ensures.event c.in-NoMemory.ensures.firm
+
+pub returns-in-Got-clause-images : goal.returns-in-Got-clause-images
+returns-in-Got-clause-images g c = did_read c.args.dir.number (name_of c.args.file) c.in-Ok.path c.in-Got.bytes (g.K.Desk.view c.args.desk.now) (g.K.Desk.view c.read.new.self) (c.in-Ok.ensures.found ∙ c.name_of.ensures) c.in-Got.ensures.event
