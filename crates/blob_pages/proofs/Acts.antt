@@ -1,5 +1,5 @@
 -- The acts of a landing: the writes of the pages of a blob, one after another, and what settles it.
-use Rattle.std.proofs.Common.{◌≡◌, ◌⊎◌, inl, inr, ℕ, zero, suc, ◌+◌, ◌-◌, ◌/◌, ◌≤◌, List, [], ◌∷◌, ◌++◌, length, map, Option, Some, None, refl, sym, ◌∙◌, ap, arith, append_assoc, append-nil}
+use Rattle.std.proofs.Common.{◌≡◌, ◌⊎◌, inl, inr, ℕ, zero, suc, ◌+◌, ◌-◌, ◌/◌, ◌≤◌, List, [], ◌∷◌, ◌++◌, length, map, Option, Some, None, sym, ◌∙◌, ap, arith, append_assoc}
 use Rattle.std.specs.List.{range_with_len}
 use Rattle.std.proofs.lemmas.List.FromFn.{map-range_with_len_more}
 use Rattle.disk_model.specs.declared.act.DiskAct.{DiskAct}
@@ -10,21 +10,11 @@ use Rattle.blob_pages.specs.Pages.{page_of, open_page, page_count}
 use Rattle.blob_pages.specs.Written.{place, page_acts, settling_acts}
 use Rattle.blob_pages.proofs.Writing.{open_none, open_some}
 
-pub with_acts-none : (told : Option Past) → told ≡ with_acts told []
-with_acts-none None = refl
-with_acts-none (Some past) = ap (λ (t : List DiskAct). Some (record { start = past.start; trail = t })) (sym (append-nil past.trail))
-
 pub with_acts-more : (told mid new : Option Past) (acts : List DiskAct) (act : DiskAct) → mid ≡ with_acts told acts → new ≡ with_act mid act → new ≡ with_acts told (acts ++ act ∷ [])
 with_acts-more None mid new acts act e next = next ∙ ap (λ (o : Option Past). with_act o act) e
 with_acts-more (Some past) mid new acts act e next =
     next ∙ ap (λ (o : Option Past). with_act o act) e
     ∙ ap (λ (t : List DiskAct). Some (record { start = past.start; trail = t })) (append_assoc past.trail acts (act ∷ []))
-
--- no page was passed yet
-pub acts_none : (told : Option Past) (start : ℕ) (chain blob : List ℕ) (k : ℕ) → told ≡ with_acts told (page_acts start chain blob k k)
-acts_none told start chain blob k =
-    let none : 0 ≡ k - k = omega arith in
-    with_acts-none told ∙ ap (λ (n : ℕ). with_acts told (map (λ (i : ℕ). Wrote (place start chain i) (page_of blob i)) (range_with_len k n))) none
 
 page_acts-more : (start : ℕ) (chain blob : List ℕ) (from k : ℕ) → from ≤ k → page_acts start chain blob from (k + 1) ≡ page_acts start chain blob from k ++ Wrote (place start chain k) (page_of blob k) ∷ []
 page_acts-more start chain blob from k le =
