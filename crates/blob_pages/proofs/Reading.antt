@@ -1,12 +1,13 @@
 -- How a blob is read page by page.
-use Rattle.std.proofs.Common.{◌≡◌, ℕ, zero, suc, ◌+◌, ◌-◌, ◌*◌, ◌<◌, ◌≤◌, min, List, [], ◌∷◌, ◌++◌, length, take, Option, Some, None, IfSome, refl, sym, ◌∙◌, ap, subst, inl, inr, arith, length-append, get_or}
+use Rattle.std.proofs.Common.{◌≡◌, ℕ, zero, suc, ◌+◌, ◌-◌, ◌*◌, ◌<◌, ◌≤◌, min, List, [], ◌∷◌, ◌++◌, length, take, Option, Some, None, IfSome, refl, sym, ◌∙◌, ap, subst, inl, inr, arith, length-append, get_or, append_assoc}
 use Rattle.std.specs.Prelude.{slice_index}
 use Rattle.std.specs.List.{All}
-use Rattle.std.proofs.lemmas.List.{take_all, length-take, length_push, append-nil, get_or_append_left, get_or_push, get_or-take, take_min}
+use Rattle.std.proofs.lemmas.List.{take_all, length-take, length_push, append-nil, get_or_append_left, get_or_push, get_or-take, take_min, take-append-le, length-take-le}
 use Rattle.std.proofs.lemmas.List.Concat.{flat_map-append}
 use Rattle.std.proofs.lemmas.Bool.{cases_lt}
 use Rattle.disk_model.specs.Past.{Page, Pages, page_at, Past, state_of, MayRead}
-use Rattle.blob_pages.specs.Chains.{joined, AreRead}
+use Rattle.blob_pages.specs.Written.{place}
+use Rattle.blob_pages.specs.Chains.{joined, IsReadAt, AreRead}
 
 -- each of the first n pages of the chain is as the disk may give it
 abbrev MayBe : Option Past → ℕ → List ℕ → ℕ → Pages → Type 0
@@ -81,6 +82,47 @@ AreRead-step told now start chain len n i rest part bytes page same read full be
     subst (λ (k : ℕ). IfSome told (λ (past : Past). MayRead (state_of past (start + k)) page)) at told_may in
     subst (λ (k : ℕ). AreRead told start chain len (i + 1) (bytes ++ take k page)) (sym (part_is ∙ ap (λ (r : ℕ). min r 4096) rest_is))
     (AreRead-more told start chain len i bytes page read full within here)
+
+-- The bytes of two pages, of which the first belongs to the blob whole.
+two_parts : (rest part : ℕ) (p q : List ℕ) → length p ≡ 4096 → 4096 < rest → part ≡ min rest 8192 → take (min rest 4096) p ++ take (min (rest - 4096) 4096) q ≡ take part (p ++ q)
+two_parts rest part p q full more part_is =
+    let whole : take (min rest 4096) p ≡ p = take_all (min rest 4096) p (omega (arith, full, more)) in
+    ap (λ (l : List ℕ). l ++ take (min (rest - 4096) 4096) q) whole
+    ∙ ap (λ (k : ℕ). p ++ take k q) (omega (arith, full, more, part_is))
+    ∙ sym (take-append part p q (omega (arith, full, more, part_is)))
+
+-- The next two pages are read, or the last one, of which a part belongs to the blob.
+pub AreRead-two : (told now : Option Past) (start : ℕ) (chain : List ℕ) (len n k rest part : ℕ) (bytes : List ℕ) (pages : Pages) → now ≡ told → AreRead told start chain len (2 * k) bytes → length pages ≡ 2 → 2 * k < length (take n chain) → n ≤ length chain → len ≤ 4096 * n → 4096 * n < len + 4096 → rest ≡ len - 8192 * k → part ≡ min rest 8192 → IsReadAt now (place start (take n chain) (2 * k)) (page_at pages 0) → (2 * k + 1 < length (take n chain) → IsReadAt now (place start (take n chain) (2 * k + 1)) (page_at pages 1)) → AreRead told start chain len (min (2 * k + 2) n) (bytes ++ take part (joined pages))
+AreRead-two told now start chain len n k rest part bytes [] same read two below inside least most rest_is part_is first second = absurd (omega (arith, two))
+AreRead-two told now start chain len n k rest part bytes (p ∷ []) same read two below inside least most rest_is part_is first second = absurd (omega (arith, two))
+AreRead-two told now start chain len n k rest part bytes (p ∷ q ∷ r ∷ pages) same read two below inside least most rest_is part_is first second = absurd (omega (arith, two))
+AreRead-two told now start chain len n k rest part bytes (p ∷ q ∷ []) same read two below inside least most rest_is part_is first second =
+    let size : length (take n chain) ≡ n = length-take-le n chain inside in
+    let once : AreRead told start chain len (2 * k + 1) (bytes ++ take (min rest 4096) p) =
+    AreRead-step told now start chain len n (2 * k) rest (min rest 4096) bytes p same read first.0 below (omega (arith, below, size, most)) (rest_is ∙ omega arith) refl first.1 in
+    let back : List ℕ = q ++ [] in
+    elim (cases_lt (2 * k + 1) n) [
+      | inl more ↦
+          let next : 2 * k + 1 < length (take n chain) = omega (arith, more, size) in
+          let page = second next in
+          let long : 4096 < rest = omega (arith, more, most, rest_is) in
+          let twice : AreRead told start chain len (2 * k + 1 + 1) ((bytes ++ take (min rest 4096) p) ++ take (min (rest - 4096) 4096) q) =
+          AreRead-step told now start chain len n (2 * k + 1) (rest - 4096) (min (rest - 4096) 4096) (bytes ++ take (min rest 4096) p) q same once page.0 next (omega (arith, more, most)) (omega (arith, rest_is)) refl page.1 in
+          let all : (bytes ++ take (min rest 4096) p) ++ take (min (rest - 4096) 4096) q ≡ bytes ++ take part (p ++ back) =
+          append_assoc bytes (take (min rest 4096) p) (take (min (rest - 4096) 4096) q)
+          ∙ ap (λ (l : List ℕ). bytes ++ l) (two_parts rest part p q first.0 long part_is)
+          ∙ ap (λ (l : List ℕ). bytes ++ take part (p ++ l)) (sym (append-nil q)) in
+          let count : 2 * k + 1 + 1 ≡ min (2 * k + 2) n = omega (arith, more) in
+          subst (λ (i : ℕ). AreRead told start chain len i (bytes ++ take part (p ++ back))) count
+          (subst (λ (l : List ℕ). AreRead told start chain len (2 * k + 1 + 1) l) all twice)
+      | inr last ↦
+          let short : rest ≤ 4096 = omega (arith, last, least, rest_is) in
+          let all : take (min rest 4096) p ≡ take part (p ++ back) =
+          ap (λ (i : ℕ). take i p) (omega (arith, short, part_is)) ∙ sym (take-append-le part p back (omega (arith, short, part_is, first.0))) in
+          let count : 2 * k + 1 ≡ min (2 * k + 2) n = omega (arith, last, below, size) in
+          subst (λ (i : ℕ). AreRead told start chain len i (bytes ++ take part (p ++ back))) count
+          (subst (λ (l : List ℕ). AreRead told start chain len (2 * k + 1) (bytes ++ l)) all once)
+    ]
 
 -- a page of the front of a chain lies on the disk
 pub in_range : (start count n i : ℕ) (chain : List ℕ) → All (λ page. start + page < count) chain → i < length (take n chain) → start + get_or (take n chain) i 0 < count

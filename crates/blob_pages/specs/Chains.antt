@@ -11,6 +11,10 @@ bytes_in start chain len image = take len (flat_map (λ (p : ℕ). page_at image
 abbrev pub joined : Pages → List ℕ
 joined pages = flat_map (λ (page : Page). page) pages
 
+-- this is a whole page, as the disk may give it
+abbrev pub IsReadAt : Option Past → ℕ → Page → Type 0
+IsReadAt told n page = (length page ≡ 4096) × IfSome told (λ (past : Past). MayRead (state_of past n) page)
+
 -- These bytes of a blob are those of the first n pages of its chain, each as the disk may give it.
 pub record AreRead (told : Option Past) (start : ℕ) (chain : List ℕ) (len n : ℕ) (bytes : List ℕ) : Type 0 where
   pub pages : Pages
