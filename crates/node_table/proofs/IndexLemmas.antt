@@ -128,7 +128,7 @@ placed_next entries i entry old new root lt at distinct is put =
     ∙ ap (λ (es : List Entry). place_from 0 es root) (sym (take_more entries i entry lt ∙ ap (λ (e : Entry). front ++ e ∷ []) (sym at)))
 
 -- where no root goes, all entries stay
-none_go : (gone : List Root) (entries : List Entry) → length gone ≡ 0 → without gone entries ≡ entries
+pub none_go : (gone : List Root) (entries : List Entry) → length gone ≡ 0 → without gone entries ≡ entries
 none_go [] [] none = refl
 none_go [] (x ∷ entries) none = ap (λ (l : List Entry). x ∷ l) (none_go [] entries none)
 none_go (r ∷ gone) entries none = absurd (omega (arith, none))

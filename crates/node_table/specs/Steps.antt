@@ -1,5 +1,5 @@
 -- What the steps of loading and of a commit leave.
-use Rattle.std.specs.Prelude.{ℕ, ◌≡◌, ◌≢◌, ◌⊎◌, ◌+◌, ◌*◌, ◌/◌, ◌<◌, ◌≤◌, ◌↔◌, Bool, true, false, List, [], ◌∷◌, ◌++◌, length, replicate, slice_index, slice_index_or, vec_capacity, Vec, Option, Some, None, IfSome, if◌then◌else◌}
+use Rattle.std.specs.Prelude.{ℕ, ◌≡◌, ◌≢◌, ◌⊎◌, ◌+◌, ◌*◌, ◌/◌, ◌<◌, ◌≤◌, ◌↔◌, Bool, true, false, List, [], ◌∷◌, ◌++◌, length, replicate, slice_index, slice_index_or, vec_capacity, Vec, Option, Some, None, IsTrue, IfSome, if◌then◌else◌}
 use Rattle.std.specs.Int.{w32, w64, to_le_bytes}
 use Rattle.std.specs.List.{All, AllPairs}
 use Rattle.std.specs.declared.alloc.Global.{Global}
@@ -96,9 +96,15 @@ Index = HashMap Root ℕ (BuildHasherDefault FoldHasher)
 abbrev pub IsIndex : Index → List Entry → Type 0
 IsIndex index entries = (root : Root) → get root_eq index root ≡ place_from 0 entries root
 
+-- The first rows are those of these entries, the links make their chains, and no other row is used.
+pub record LaidOut (row_list : List Row) (links : List ℕ) (entries : List Entry) : Type 0 where
+  pub rows : (i : ℕ) (d : Entry) → i < length entries → row_from row_list i ≡ row_of (slice_index_or entries i d)
+  pub rest : (i : ℕ) → length entries ≤ i → row_from row_list i ≡ unused_row
+  pub chains : All (λ entry. IsChain (link_from links) entry.pages) entries
+
 -- what stands in a table's fields
 pub record IsTable
-    (g : Geometry) (entries : Vec Entry Global) (places : Index) (rows : Vec Row Global)
+    (g : Geometry) (entries : Vec Entry Global) (places : Index) (marked : Bool) (rows : Vec Row Global)
     (links : Vec ℕ Global) : Type 0 where
   pub limits : IsWithinLimits g
   pub sound : AreSound g entries.items
@@ -107,12 +113,7 @@ pub record IsTable
   pub index : IsIndex places entries.items
   pub left : g.blobs ≤ length entries.items + spare places
   pub room : g.blobs ≤ hash_map_len places + spare places
-
--- The first rows are those of these entries, the links make their chains, and no other row is used.
-pub record LaidOut (row_list : List Row) (links : List ℕ) (entries : List Entry) : Type 0 where
-  pub rows : (i : ℕ) (d : Entry) → i < length entries → row_from row_list i ≡ row_of (slice_index_or entries i d)
-  pub rest : (i : ℕ) → length entries ≤ i → row_from row_list i ≡ unused_row
-  pub chains : All (λ entry. IsChain (link_from links) entry.pages) entries
+  pub laid : IsTrue marked → LaidOut rows.items links.items entries.items
 
 -- these entries are all that rows and links list, or a row is the first bad one
 abbrev pub Judges : Geometry → List Row → List ℕ → List Entry → Option ℕ → Type 0

@@ -75,13 +75,8 @@ fn lay_next(entry: &Entry, gone: &[Root], at: usize, rows: &mut [Row], links: &m
     at + 1
 }
 
-/// Lays out the entries that stay, and answers how many they are.
-pub(crate) fn lay_out(
-    entries: &[Entry],
-    gone: &[Root],
-    rows: &mut [Row],
-    links: &mut [u32],
-) -> usize
+// Lays out the entries that stay, and answers how many they are.
+fn lay_out(entries: &[Entry], gone: &[Root], rows: &mut [Row], links: &mut [u32]) -> usize
     requires room { length entries.now ≤ length rows.old }
     requires each { All (IsEntry (length links.old)) entries.now }
     requires together { AllPairs MayStandTogether entries.now }
@@ -94,6 +89,27 @@ pub(crate) fn lay_out(
         at = lay_next(entry, gone, at, rows, links);
     }
     at
+}
+
+// Lays out the entries that stay, unless they are laid out already, and answers how many they are.
+fn lay_kept(
+    entries: &[Entry],
+    gone: &[Root],
+    laid: bool,
+    rows: &mut [Row],
+    links: &mut [u32],
+) -> usize
+    requires room { length entries.now ≤ length rows.old }
+    requires each { All (IsEntry (length links.old)) entries.now }
+    requires together { AllPairs MayStandTogether entries.now }
+    requires laid { IsTrue laid → LaidOut rows.old links.old entries.now }
+    ensures count { result ≡ length (without gone.now entries.now) }
+    ensures laid { LaidOut rows.new links.new (without gone.now entries.now) }
+{
+    if laid && gone.is_empty() {
+        return entries.len();
+    }
+    lay_out(entries, gone, rows, links)
 }
 
 // Puts an entry at the row behind the last one that is used, if there is one.
@@ -113,10 +129,12 @@ fn lay_last(entry: &Entry, at: usize, rows: &mut [Row], links: &mut [u32]) -> bo
 }
 
 /// Lays out the entries that stay and the one that comes. `false` where there is no row for that one.
+/// Where the entries are laid out already and all stay, only the one that comes is laid out.
 pub(crate) fn lay_all(
     entries: &[Entry],
     gone: &[Root],
     add: &Option<Entry>,
+    laid: bool,
     rows: &mut [Row],
     links: &mut [u32],
 ) -> bool
@@ -125,12 +143,13 @@ pub(crate) fn lay_all(
     requires together { AllPairs MayStandTogether entries.now }
     requires added { ForSome add.now (λ entry. IsEntry (length links.old) entry
         × All (λ other. MayStandTogether other entry) entries.now) }
+    requires laid { IsTrue laid → LaidOut rows.old links.old entries.now }
     ensures fits { IsTrue result
         ↔ (length (with_added add.now (without gone.now entries.now)) ≤ length rows.old) }
     ensures laid { IsTrue result
         → LaidOut rows.new links.new (with_added add.now (without gone.now entries.now)) }
 {
-    let at = lay_out(entries, gone, rows, links);
+    let at = lay_kept(entries, gone, laid, rows, links);
     match add {
         None => true,
         Some(entry) => lay_last(entry, at, rows, links),

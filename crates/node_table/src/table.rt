@@ -34,6 +34,8 @@ pub struct Table {
     // what a commit writes is laid out here, so that it takes no memory
     rows: Vec<Row>,
     links: Vec<u32>,
+    // whether the entries are laid out there
+    laid: bool,
 }
 
 impl Model for Table {
@@ -49,7 +51,7 @@ impl Model for Table {
       broken = t.broken;
     } };
 
-    ghost invariant = { λ t. IsTable t.geometry t.entries t.index t.rows t.links };
+    ghost invariant = { λ t. IsTable t.geometry t.entries t.index t.laid t.rows t.links };
 }
 
 impl Table {
@@ -120,6 +122,7 @@ impl Table {
                 index,
                 rows,
                 links,
+                laid: false,
             }),
             Ok(Some(row)) => Err(LoadFault::Damaged {
                 place: Place::Table {
@@ -167,17 +170,23 @@ impl Table {
             &self.entries,
             &add,
             drop,
+            self.laid,
             &mut self.rows,
             &mut self.links,
         );
         match reply {
             CommitReply::Done => {
                 self.second = !self.second;
+                self.laid = true;
                 change(&mut self.entries, &mut self.index, add, drop);
                 CommitReply::Done
             }
-            CommitReply::NoNode => CommitReply::NoNode,
+            CommitReply::NoNode => {
+                self.laid = false;
+                CommitReply::NoNode
+            }
             CommitReply::Broke => {
+                self.laid = false;
                 self.broken = true;
                 CommitReply::Broke
             }

@@ -1,13 +1,13 @@
 //! The writes of a commit.
 
-ghost use Rattle.std.specs.Prelude.{◌≡◌, ◌⊎◌, ◌↔◌, ◌<◌, ◌≤◌, not, length, IfSome};
+ghost use Rattle.std.specs.Prelude.{◌≡◌, ◌⊎◌, ◌↔◌, ◌<◌, ◌≤◌, not, length, IsTrue, IfSome};
 ghost use Rattle.std.specs.Option.{ForSome};
 ghost use Rattle.disk_model.specs.Past.{IsPast, Rose};
 ghost use Rattle.disk_model.specs.Images.{EachImage, AtEach, WritesOnly};
 ghost use Rattle.image_layout.specs.Geometry.{IsWithinLimits, total_pages};
 ghost use Rattle.node_table.specs.Entries.{AreSound, MayCome, without, with_added};
 ghost use Rattle.node_table.specs.Table.{HasTable, Commits};
-ghost use Rattle.node_table.specs.Steps.{AreSheets, IsSwitchPage};
+ghost use Rattle.node_table.specs.Steps.{AreSheets, LaidOut, IsSwitchPage};
 
 use crate::copy::switch;
 use crate::entry::{CommitReply, Entry};
@@ -17,7 +17,8 @@ use disk_model::Disk;
 use image_layout::Geometry;
 use pkg_names::Root;
 
-/// Lays out the entries after a commit, and writes them to the copy that doesn't count.
+/// Lays out the entries after a commit, and writes them to the copy that doesn't count. `laid` says that
+/// the entries before it are laid out.
 pub(crate) fn write_commit<D: Disk>(
     disk: &mut D,
     geometry: &Geometry,
@@ -25,6 +26,7 @@ pub(crate) fn write_commit<D: Disk>(
     entries: &[Entry],
     add: &Option<Entry>,
     gone: &[Root],
+    laid: bool,
     rows: &mut [Row],
     links: &mut [u32],
 ) -> CommitReply
@@ -33,6 +35,9 @@ pub(crate) fn write_commit<D: Disk>(
     requires sound { AreSound geometry.now entries.now }
     requires sheets { AreSheets geometry.now rows.old links.old }
     requires added { ForSome add.now (MayCome geometry.now entries.now) }
+    requires laid { IsTrue laid → LaidOut rows.old links.old entries.now }
+    ensures laid { result ≡ CommitReply.Done
+        → LaidOut rows.new links.new (with_added add.now (without gone.now entries.now)) }
     ensures no_node { (result ≡ CommitReply.NoNode) ↔ (geometry.now.blobs
         < length (with_added add.now (without gone.now entries.now))) }
     ensures sound { (result ≡ CommitReply.NoNode → ⊥)
@@ -56,7 +61,7 @@ pub(crate) fn write_commit<D: Disk>(
     ensures cause { result ≡ CommitReply.Broke → Rose (D.faults disk.old) (D.faults disk.new) }
 {
     let _pages = disk.pages();
-    if !lay_all(entries, gone, add, rows, links) {
+    if !lay_all(entries, gone, add, laid, rows, links) {
         return CommitReply::NoNode;
     }
     match switch(disk, geometry, !second, rows, links) {

@@ -49,3 +49,6 @@ returns-in-Ok-clause-done g c = λ _.
     let after = with_added c.args.add.now (without c.args.gone.now entries) in
     let sound = sound_after geometry c.args.gone.now entries c.args.add.now (length c.args.rows.now) c.requires.sound c.requires.added c.requires.sheets.row_count (c.lay_all.ensures.fits.0 c.if-not-lay_all.false) in
     c.in-Ok.ensures.done after (lays_out geometry c.lay_all.new.rows c.lay_all.new.links after (c.lay_all.ensures.laid c.if-not-lay_all.false) sound)
+
+pub returns-in-Ok-clause-laid : goal.returns-in-Ok-clause-laid
+returns-in-Ok-clause-laid g c = λ _. c.lay_all.ensures.laid c.if-not-lay_all.false

@@ -1,4 +1,5 @@
 use Rattle.std.proofs.Common.{◌≡◌, ℕ, ◌+◌, ◌/◌, ◌≤◌, Bool, List, length, sym, ◌∙◌, ap, subst, arith, Option, Some, None, IfSome, IfNone}
+use Rattle.std.proofs.lemmas.Bool.{false≢true}
 use Rattle.disk_model.specs.Images.{SomeImage}
 use Rattle.std.specs.HashMap.{hash_map_len, spare}
 use Rattle.image_layout.specs.declared.geometry.Geometry.{Geometry}
@@ -39,6 +40,7 @@ invariant_of-result g c =
       index = subst (λ (o : Option ℕ). IfNone o (IsIndex c.judge.new.index c.judge.new.entries.items)) c.in-Ok-None-judge.field-0-is c.in-Ok-None-judge.ensures.index;
       left = omega (arith, left, ap length c.deref.ensures.value, sheets.row_count);
       room = omega (arith, enough, ap length c.deref.ensures.value, sheets.row_count);
+      laid = λ yes. absurd (false≢true yes);
     }
 
 pub returns-in-Ok-None-judge-clause-sound : goal.returns-in-Ok-None-judge-clause-sound
