@@ -1,5 +1,5 @@
 -- What the files of a folder hold, and what is answered of them.
-use Rattle.std.specs.Prelude.{◌≡◌, ℕ, ⊤, List, ◌++◌, length, codes, Option, Some, None, Result, Ok, Err, IfSome, IsSomeAnd}
+use Rattle.std.specs.Prelude.{◌≡◌, ℕ, ⊤, List, [], ◌++◌, length, take, codes, Option, Some, None, Result, Ok, Err, IfSome, IsSomeAnd}
 use Rattle.pkg_names.specs.Root.{root_text}
 use Rattle.pkg_names.specs.declared.root.Root.{Root}
 use Rattle.pkg_names.specs.declared.pinned.Pinned.{Pinned}
@@ -7,6 +7,8 @@ use Rattle.repo_source.specs.declared.repo.FindReply.{FindReply}
 use Rattle.repo_source.specs.declared.repo.FindReply.TheVariants as finds
 use Rattle.repo_source.specs.declared.repo.FetchReply.{FetchReply}
 use Rattle.repo_source.specs.declared.repo.FetchReply.TheVariants as fetches
+use Rattle.repo_source.specs.declared.repo.NextReply.{NextReply}
+use Rattle.repo_source.specs.declared.repo.NextReply.TheVariants as nexts
 use Rattle.folder_repo.specs.Listing.{listing_in}
 use Rattle.folder_repo.specs.declared.listing.DirFault.{DirFault}
 use Rattle.folder_repo.specs.declared.listing.DirFault.TheVariants.{Unreadable, BadListing, NoMemory}
@@ -58,3 +60,15 @@ SaysFile holds fetches.NoMemory = ⊤
 
 abbrev pub FetchesFile : Option (List ℕ → Option (List ℕ)) → List ℕ → Root → FetchReply → Type 0
 FetchesFile files folder root reply = IfSome files (λ at. SaysFile (at (blob_name folder root)) reply)
+
+-- the file that was found is open, and all of it is left to be given
+abbrev pub IsLeft : Option (List ℕ → Option (List ℕ)) → List ℕ → Root → FetchReply → Option (List ℕ) → Type 0
+IsLeft files folder root (fetches.Found len) left = IfSome files (λ at. left ≡ at (blob_name folder root))
+IsLeft files folder root reply left = ⊤
+
+-- What is given is the front of what was left of a file, and the rest is left. The end comes where nothing was left.
+abbrev pub Gives : (before after : Option (List ℕ)) → List ℕ → NextReply → Type 0
+Gives before after out (nexts.Given count) =
+    IfSome before (λ bytes. IsSomeAnd after (λ rest. bytes ≡ take count out ++ rest))
+Gives before after out nexts.End = IfSome before (λ bytes. (bytes ≡ []) × (after ≡ before))
+Gives before after out nexts.Failed = IfSome before (λ _. after ≡ before)

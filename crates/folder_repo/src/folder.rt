@@ -1,10 +1,10 @@
 //! A repository in a folder.
 
-ghost use Rattle.std.specs.Prelude.{◌≡◌, ◌↔◌, ◌≤◌, false, is_some, None, Ok, Err, IfOk, IfErr};
+ghost use Rattle.std.specs.Prelude.{◌≡◌, ◌↔◌, ◌<◌, ◌≤◌, length, true, false, is_some, None, Ok, Err, IfOk, IfErr, option_and_then};
 ghost use Rattle.std.specs.String.{string_bytes};
 ghost use Rattle.pkg_names.specs.Streams.{one_more, Rose};
 ghost use Rattle.repo_source.specs.Repo.{listed_root, opens, Fits};
-ghost use Rattle.folder_repo.specs.Folder.{blob_name as name_of_blob, ReadsListing, FetchesFile, find_reply};
+ghost use Rattle.folder_repo.specs.Folder.{blob_name as name_of_blob, ReadsListing, FetchesFile, Gives, IsLeft, find_reply};
 
 use crate::files::BlobFiles;
 use crate::listing::{DirFault, read_listing};
@@ -96,6 +96,8 @@ impl<F: BlobFiles + Drop> Repo for DirRepo<F> {
         // A blob is found with the length of its file, and is absent only where there is no such file. What
         // the folder is made of stays.
         ensures file { FetchesFile (F.files self.old.files) (string_bytes self.old.folder) root.now result }
+        ensures left { IsLeft (F.files self.old.files) (string_bytes self.old.folder) root.now result
+            (option_and_then F.File.Read.remaining self.new.opened) }
         ensures listing_stays { self.new.listing ≡ self.old.listing }
         ensures folder_stays { self.new.folder ≡ self.old.folder }
         ensures files_stay { self.new.files ≡ self.old.files }
@@ -116,7 +118,19 @@ impl<F: BlobFiles + Drop> Repo for DirRepo<F> {
         }
     }
 
-    fn next(&mut self, out: &mut [u8]) -> NextReply {
+    fn next(&mut self, out: &mut [u8]) -> NextReply
+        requires open { is_some self.old.opened ≡ true }
+        requires room { 0 < length out.old }
+        ensures fits { Fits result (length out.old) }
+        ensures cause { result ≡ NextReply.Failed → Rose self.old.faults self.new.faults }
+        ensures fetches { self.new.fetches ≡ self.old.fetches }
+        ensures faults { self.old.faults ≤ self.new.faults }
+        ensures is_open { is_some self.new.opened ≡ is_some self.old.opened }
+
+        // The open file's bytes are given, in order.
+        ensures gives { Gives (option_and_then F.File.Read.remaining self.old.opened)
+            (option_and_then F.File.Read.remaining self.new.opened) out.new result }
+    {
         let Some(file) = &mut self.opened else {
             return NextReply::End;
         };
@@ -151,6 +165,8 @@ fn open_blob<F: BlobFiles>(
 ) -> Result<(F::File, u64), FetchReply>
     ensures opened { IfOk result (λ opened.
         FetchesFile (F.files files.now) folder.now root.now (FetchReply.Found opened.1)) }
+    ensures left { IfOk result (λ opened. IsLeft (F.files files.now) folder.now root.now (FetchReply.Found opened.1)
+        (F.File.Read.remaining opened.0)) }
     ensures refused { IfErr result (λ reply. FetchesFile (F.files files.now) folder.now root.now reply) }
     ensures closed { IfErr result (λ reply. opens reply ≡ false) }
 {
