@@ -98,7 +98,8 @@ fn packages_of<K: Desk>(alloc: Global, desk: &mut K, dir: Dir) -> Result<PinnedL
 }
 
 fn images_of<K: Desk>(alloc: Global, desk: &mut K, dir: Dir) -> Result<Images, Refusal>
-    ensures goes { (epoch : ℕ) (packages : List PinnedOf) (repo : Told) → Goes (Reading dir (PackagesRead epoch packages))
+    ensures goes { (epoch : ℕ) (packages : List PinnedOf) (repo : Told)
+        → Goes (Reading dir (PackagesRead epoch packages))
         (or_refused (λ images. Staging dir (record { epoch = epoch; packages = packages; images = images })) dir result)
         (K.view desk.old) (K.view desk.new) repo repo (K.firm desk.old) (K.firm desk.new) }
     ensures images { OrBad (λ images. Did (K.view desk.old) (K.view desk.new) (ReadsImages images)) result }

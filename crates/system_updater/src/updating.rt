@@ -89,7 +89,8 @@ fn take_slot<W: Wait, K: Desk, R: Repo>(
 ) -> UpdateReply
     requires few { length plan.packages ≤ ENTRY_LIMIT }
     requires at { IsStaging plan (K.view desk.old) }
-    ensures goes { (dir : DirOf) → HoldsAt (Staging dir plan) (K.view desk.old) → Goes (Staging dir plan) (closed dir result)
+    ensures goes { (dir : DirOf) → HoldsAt (Staging dir plan) (K.view desk.old)
+        → Goes (Staging dir plan) (closed dir result)
         (K.view desk.old) (K.view desk.new)
         (told (R.listing repo.old) (R.files repo.old) (R.faults repo.old) (R.fetches repo.old))
         (told (R.listing repo.new) (R.files repo.new) (R.faults repo.new) (R.fetches repo.new))
