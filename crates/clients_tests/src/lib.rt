@@ -1,10 +1,8 @@
-//! Tests of resolves, updates and lanes at stores in memory, over public calls, and what they share.
+//! Tests of resolves and updates at stores in memory, over public calls, and what they share.
 #![tactic(auto)]
 
 #[cfg(test)]
 mod resolves;
-#[cfg(test)]
-mod scripts;
 #[cfg(test)]
 mod start;
 pub mod stores;

@@ -3,6 +3,7 @@
 ghost use Rattle.std.specs.Prelude.{◌≡◌, None, IfOk};
 ghost use Rattle.store_model.specs.Holding.{held, nothing_held};
 ghost use Rattle.store_model.specs.History.{of_lane};
+ghost use Rattle.script_server.specs.Lanes.{AreFresh};
 
 use abr_record::factory;
 use image_layout::{Geometry, ImageSum, Sys};
@@ -33,10 +34,14 @@ pub fn system(root: Root, epoch: u64) -> Sys {
     }
 }
 
-/// The store that has these blobs, and runs the system of this package in A. It has room for 64 blobs and 1024
-/// pages.
-pub fn store_of(alloc: Global, files: &[RepoFile], root: Root) -> Result<Store, Fail>
-    ensures { IfOk result (λ store. held (of_lane 1 store.history) ≡ nothing_held) }
+/// The store of this geometry that has these blobs, and runs the system of this package in A.
+pub fn store_in(
+    alloc: Global,
+    geometry: Geometry,
+    files: &[RepoFile],
+    root: Root,
+) -> Result<Store, Fail>
+    ensures { IfOk result (λ store. AreFresh 0 store.history) }
 {
     let mut blobs = StoredBlobs::new(alloc);
     for file in files {
@@ -44,15 +49,22 @@ pub fn store_of(alloc: Global, files: &[RepoFile], root: Root) -> Result<Store, 
     }
     let (stock, contents) = blobs.into_parts();
     let standing = Standing::make(stock, factory(), Some(system(root, 1)), None);
+    match Store::open(alloc, geometry, standing, contents)? {
+        Opening::Booted(store) => Ok(store),
+        _ => Err(Fail::new("no boot")),
+    }
+}
+
+/// The same with room for 64 blobs and 1024 pages.
+pub fn store_of(alloc: Global, files: &[RepoFile], root: Root) -> Result<Store, Fail>
+    ensures { IfOk result (λ store. held (of_lane 1 store.history) ≡ nothing_held) }
+{
     let geometry = Geometry {
         blobs: 64,
         data_pages: 1024,
         slot_pages: 8,
     };
-    match Store::open(alloc, geometry, standing, contents)? {
-        Opening::Booted(store) => Ok(store),
-        _ => Err(Fail::new("no boot")),
-    }
+    store_in(alloc, geometry, files, root)
 }
 
 /// The store that has the system package of an empty list, and runs it.

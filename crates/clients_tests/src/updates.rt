@@ -1,6 +1,7 @@
 //! Updates of one lane, each by its last events. The store runs a system of epoch 1 with an empty list.
 
 ghost use Rattle.std.specs.Prelude.{◌≡◌, None};
+ghost use Rattle.plain_desk.specs.Stores.{LeavesOthers};
 ghost use Rattle.store_model.specs.Holding.{held};
 ghost use Rattle.store_model.specs.History.{of_lane};
 
@@ -14,6 +15,7 @@ use script_lang::text_of;
 use std::alloc::Global;
 use std::sync::Wait;
 use std::test::Fail;
+use store_model::{Desk, StageReply};
 use system_updater::{UpdateReply, update};
 
 const EPOCH: &[u8] = b"{\"version\":\"1\",\"epoch\":2}";
@@ -228,5 +230,35 @@ fn images_are_absent(rt: HostRuntime) -> Result<(), Fail> {
 29 1 close 15 closed
 ";
     assert!(rt; text.as_slice().ends_with(&with_roots(alloc, end, &roots)?));
+    Ok(())
+}
+
+// Begins an update on lane 2. Whether it has its turn.
+fn stage_by_another(store: &mut Store) -> bool
+    ensures others { LeavesOthers 2 store.old.history store.new.history }
+{
+    let mut desk = Lane::make(store, 2);
+    let reply = desk.stage(2);
+    desk.alone();
+    matches!(reply, StageReply::Turn { .. })
+}
+
+// Another lane is at its update, so this one ends, and its package is closed.
+#[test]
+fn another_lane_updates(rt: HostRuntime) -> Result<(), Fail> {
+    let alloc = rt.alloc();
+    let mut repo = shop_of_update(alloc)?.into_repo(Vec::new(alloc));
+    let mut store = base_store(alloc)?;
+    let url = read_url(alloc, b"fuchsia-pkg://a/update")?;
+    if url.file.is_some() || !stage_by_another(&mut store) {
+        return Err(Fail::new("no turn"));
+    }
+    let reply = update_on(&rt, alloc, &mut store, &mut repo, &url);
+    assert!(rt; matches!(reply, UpdateReply::Busy { lane: 2 }));
+    let text = text_of(alloc, &store.into_history())?;
+    assert!(rt;
+        text.as_slice()
+            .ends_with(b"20 1 stage 2 busy 2\n21 1 close 16 closed\n")
+    );
     Ok(())
 }

@@ -28,8 +28,8 @@ pub fn write_folder<F: Files>(
     Ok(())
 }
 
-// A line for each package that is listed.
-fn listing_of(alloc: Global, shop: &Shop) -> Result<Vec<u8>, AllocError> {
+/// The text of a shop's listing: a line for each package that is listed.
+pub fn listing_of(alloc: Global, shop: &Shop) -> Result<Vec<u8>, AllocError> {
     let mut listing = Vec::new(alloc);
     for entry in shop.listing() {
         let path = write_path(alloc, &entry.path)?;

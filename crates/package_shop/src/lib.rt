@@ -4,5 +4,5 @@
 mod folder;
 mod shop;
 
-pub use folder::write_folder;
+pub use folder::{listing_of, write_folder};
 pub use shop::{Shop, push_line, with_roots};

@@ -1,9 +1,9 @@
 -- What the opening of the script came to.
 use Rattle.std.specs.Prelude.{Option, None, Some}
-use Rattle.pkg_main.specs.declared.script_file.Opening.{Opening}
-use Rattle.pkg_main.specs.declared.script_file.Opening.TheVariants.{Fine}
-use Rattle.pkg_main.specs.declared.script_file.State.{State}
-use Rattle.pkg_main.specs.declared.script_file.State.TheVariants.{Unopened, Open, Failed}
+use Rattle.pkg_main.specs.declared.late_file.Opening.{Opening}
+use Rattle.pkg_main.specs.declared.late_file.Opening.TheVariants.{Fine}
+use Rattle.pkg_main.specs.declared.late_file.State.{State}
+use Rattle.pkg_main.specs.declared.late_file.State.TheVariants.{Unopened, Open, Failed}
 
 abbrev pub opening_in : {S : Type 0} → State S → Option Opening
 opening_in Unopened = None

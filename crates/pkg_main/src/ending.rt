@@ -1,17 +1,24 @@
 //! How the program ends.
 
 ghost use Rattle.std.specs.Prelude.{◌≡◌};
-ghost use Rattle.pkg_main.specs.Endings.{ending_of, number_of_ending};
+ghost use Rattle.pkg_main.specs.Endings.{ending_of, ending_of_folder, ending_of_hashing, number_of_ending};
 
-use crate::script_file::Opening;
-use pkg_tool::Status;
+use crate::late_file::Opening;
+use folder_repo::DirFault;
+use pkg_tool::{MerkleStatus, Status};
 
 #[derive(Clone, Copy, Debug, PartialEq, Eq)]
 pub(crate) enum Ending {
     /// The run ended so.
     Ran(Status),
-    /// The script could not be opened.
+    /// The hashing of a file ended so.
+    Hashed(MerkleStatus),
+    /// The file that is named, a script or one to be hashed, could not be opened.
     CannotOpen,
+    /// The listing of the repository could not be read.
+    NoListing,
+    /// This line of the listing is bad; 0, where it has too many bytes.
+    BadListing { line: u32 },
 }
 
 impl Ending {
@@ -26,13 +33,38 @@ impl Ending {
         }
     }
 
+    /// The ending of the hashing of a file, which was opened so.
+    pub(crate) fn of_hashing(status: MerkleStatus, opening: Opening) -> Ending
+        ensures { result ≡ ending_of_hashing status opening }
+    {
+        match (status, opening) {
+            (MerkleStatus::ReadFault, Opening::Missing) => Ending::CannotOpen,
+            (MerkleStatus::ReadFault, Opening::NoMemory) => Ending::Ran(Status::NoMemory),
+            _ => Ending::Hashed(status),
+        }
+    }
+
+    /// The ending where a folder is no repository.
+    pub(crate) fn of_folder(fault: DirFault) -> Ending
+        ensures { result ≡ ending_of_folder fault }
+    {
+        match fault {
+            DirFault::Unreadable => Ending::NoListing,
+            DirFault::BadListing { line } => Ending::BadListing { line },
+            DirFault::NoMemory => Ending::Ran(Status::NoMemory),
+        }
+    }
+
     /// The exit status of the program.
     pub(crate) fn number(self) -> u8
         ensures { result ≡ number_of_ending self }
     {
         match self {
             Ending::Ran(status) => status.number(),
+            Ending::Hashed(status) => status.number(),
             Ending::CannotOpen => 1,
+            Ending::NoListing => 1,
+            Ending::BadListing { .. } => 1,
         }
     }
 }

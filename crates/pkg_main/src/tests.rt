@@ -1,14 +1,19 @@
 use crate::ending::Ending;
-use crate::folder_repo::{FolderRepo, HostFiles};
-use crate::names::Names;
+use crate::hashing::hash;
+use crate::late_file::{FileOpener, Late, LateFile, Opener, Opening};
 use crate::report::{NotSaid, Report, Untold, tell};
-use crate::script_file::{FileOpener, Opener, Opening, Script, ScriptFile};
+use crate::repos::repos_in;
 use crate::serving::serve;
+use folder_repo::DirFault;
+use package_url::UrlFault;
 use pkg_names::streams::{MemSink, MemSource, Source};
-use pkg_names::{Bytes, Root};
-use pkg_tool::{File, FileReply, FirstRepo, MemRepo, Status, TextFault};
+use pkg_names::{Bytes, Root, read_path};
+use pkg_tool::{MerkleStatus, Status};
+use repo_source::{FetchReply, FindReply, MemRepo, Repo, RepoFile};
+use script_lang::{LineFault, ScriptRefusal};
 use std::alloc::{AllocError, Global};
 use std::cell::Cell;
+use std::rt::Files;
 use std::test::Fail;
 use std::{env, fs, process};
 
@@ -18,62 +23,85 @@ const HI: [u8; 32] = [
     0xe9, 0x4e, 0xab, 0x93, 0xdc, 0x88, 0xd4, 0x0b, 0x2e, 0x31, 0x3a, 0xea, 0xe3, 0x3c, 0xb5, 0xa6,
 ];
 
-const SCRIPT: &[u8] = b"1 resolve a fuchsia-pkg://fuchsia.com/example?hash=\
+const SCRIPT: &[u8] = b"2 resolve a fuchsia-pkg://fuchsia.com/example?hash=\
     df6d2bb7dac8a27c99a0ac498fabc106e94eab93dc88d40b2e313aeae33cb5a6\n";
 
 const HISTORY: &[u8] = b"\
 1 0 boot A\n\
-2 1 begin example/0 ticket df6d2bb7dac8a27c99a0ac498fabc106e94eab93dc88d40b2e313aeae33cb5a6\n\
-3 1 want 2 fetch df6d2bb7dac8a27c99a0ac498fabc106e94eab93dc88d40b2e313aeae33cb5a6\n\
-4 1 room df6d2bb7dac8a27c99a0ac498fabc106e94eab93dc88d40b2e313aeae33cb5a6 made 2\n\
-5 1 land df6d2bb7dac8a27c99a0ac498fabc106e94eab93dc88d40b2e313aeae33cb5a6 landed 2\n\
-6 1 want 2 opened\n";
+2 2 begin example/0 ticket df6d2bb7dac8a27c99a0ac498fabc106e94eab93dc88d40b2e313aeae33cb5a6\n\
+3 2 want 2 fetch df6d2bb7dac8a27c99a0ac498fabc106e94eab93dc88d40b2e313aeae33cb5a6\n\
+4 2 room df6d2bb7dac8a27c99a0ac498fabc106e94eab93dc88d40b2e313aeae33cb5a6 made 2\n\
+5 2 land df6d2bb7dac8a27c99a0ac498fabc106e94eab93dc88d40b2e313aeae33cb5a6 landed 2\n\
+6 2 want 2 failed not-a-package\n";
 
-// A blob, a root under which nothing stands, and a root whose name is a folder, which can be opened
-// and not read. And a script that is there, and one that is not.
+// A listing of one package, and the blob `hi`.
+fn make_folder<F: Files>(files: &F, alloc: Global, place: &str, listing: &str) -> Result<(), Fail> {
+    let digits = "ab".repeat(alloc, 32)?;
+    fs::create_dir_all(files, format!(in alloc; "{place}/blobs")?.as_str())?;
+    fs::write(
+        files,
+        format!(in alloc; "{place}/blobs/{digits}")?.as_str(),
+        "hi",
+    )?;
+    fs::write(
+        files,
+        format!(in alloc; "{place}/listing")?.as_str(),
+        listing,
+    )?;
+    Ok(())
+}
+
+// Each lane's repository has the package and its blob.
+fn finds<F: Files>(files: &F, alloc: Global, place: &str) -> Result<usize, Fail> {
+    let mut repos = repos_in(files, alloc, place)?;
+    let path = read_path(alloc, b"example")?;
+    let mut count = 0usize;
+    for repo in repos.iter_mut() {
+        let found = repo.find(&path) == FindReply::Found(Root([0xab; 32]));
+        let fetched = repo.fetch(alloc, &Root([0xab; 32])) == FetchReply::Found { len: 2 };
+        if found && fetched {
+            count = count.saturating_add(1);
+        }
+    }
+    Ok(count)
+}
+
+// A folder for each of sixteen lanes, and one with a bad line.
 #[test]
-fn reads_files_of_a_folder(rt: HostRuntime) -> Result<(), Fail> {
+fn repositories_of_a_folder(rt: HostRuntime) -> Result<(), Fail> {
     let alloc = rt.alloc();
     let id = process::id(rt.process());
     let place = env::temp_dir(&rt)?.join(alloc, format!(in alloc; "pkg_main_{id}")?.as_str())?;
-    let blobs = place.join(alloc, "blobs")?;
-    let blob = Root([0xab; 32]);
-    let taken = Root([0xcd; 32]);
-    fs::create_dir_all(&rt, blobs.join(alloc, "cd".repeat(alloc, 32)?.as_str())?)?;
-    let name = blobs.join(alloc, "ab".repeat(alloc, 32)?.as_str())?;
-    fs::write(&rt, name.as_str(), "hi")?;
-
-    let names = Names {
-        image: "",
-        repo: place.as_str(),
-        script: name.as_str(),
-    };
-    let mut repo = FolderRepo::of(HostFiles::attach(&rt), &names);
-    let found = repo.file(alloc, &blob);
-    let absent = repo.file(alloc, &Root([0; 32]));
-    let failed = repo.file(alloc, &taken);
-    let mut script = ScriptFile::attach(FileOpener::of(&rt, &names));
-    let mut text = [0u8; 4];
-    let count = script.take(&mut text);
-    let mut none = ScriptFile::attach(FileOpener::of(
-        &rt,
-        &Names {
-            image: "",
-            repo: "",
-            script: "",
-        },
-    ));
-    let missing = none.take(&mut text);
+    let digits = "ab".repeat(alloc, 32)?;
+    let line = format!(in alloc; "example/0={digits}\n")?;
+    make_folder(&rt, alloc, place.as_str(), line.as_str())?;
+    let count = finds(&rt, alloc, place.as_str())?;
+    let twice = format!(in alloc; "{line}{line}")?;
+    make_folder(&rt, alloc, place.as_str(), twice.as_str())?;
+    let fault = repos_in(&rt, alloc, place.as_str()).err();
     fs::remove_dir_all(&rt, place.as_str())?;
+    let none = repos_in(&rt, alloc, place.as_str()).err();
+    assert_eq!(rt; count, 16);
+    assert!(rt; fault == Some(DirFault::BadListing { line: 2 }));
+    assert!(rt; none == Some(DirFault::Unreadable));
+    Ok(())
+}
 
-    let FileReply::Found(bytes) = found else {
-        return Err(Fail::from("not found"));
-    };
-    assert_eq!(rt; bytes.as_slice(), b"hi".as_slice());
-    assert!(rt; matches!(absent, FileReply::Absent));
-    assert!(rt; matches!(failed, FileReply::Failed));
+// A file that is there, and one that isn't.
+#[test]
+fn opens_files_of_the_host(rt: HostRuntime) -> Result<(), Fail> {
+    let alloc = rt.alloc();
+    let id = process::id(rt.process());
+    let name = env::temp_dir(&rt)?.join(alloc, format!(in alloc; "pkg_main_file_{id}")?.as_str())?;
+    fs::write(&rt, name.as_str(), "hi")?;
+    let mut text = [0u8; 4];
+    let mut file = LateFile::attach(FileOpener::of(&rt, name.as_str()));
+    let count = file.take(&mut text);
+    fs::remove_file(&rt, name.as_str())?;
+    let mut none = LateFile::attach(FileOpener::of(&rt, name.as_str()));
+    let missing = none.take(&mut text);
     assert_eq!(rt; count, Ok(2));
-    assert_eq!(rt; script.opening(), Opening::Fine);
+    assert_eq!(rt; file.opening(), Opening::Fine);
     assert!(rt; missing.is_err());
     assert_eq!(rt; none.opening(), Opening::Missing);
     Ok(())
@@ -145,22 +173,22 @@ fn source_of(alloc: Global, text: &[u8]) -> Result<MemSource, AllocError> {
     Ok(MemSource::make(Bytes::make(text.to_vec(alloc)?), Vec::new(alloc)))
 }
 
-// A script is opened at its first read, and not again; one that is not there is not looked for again.
+// A file is opened at its first read, and not again; one that is not there is not looked for again.
 #[test]
-fn opens_a_script_once(rt: HostRuntime) -> Result<(), Fail> {
+fn opens_a_file_once(rt: HostRuntime) -> Result<(), Fail> {
     let count = Cell::new(0);
     let mut text = [0u8; 2];
-    let mut script = ScriptFile::attach(CountingOpener {
+    let mut file = LateFile::attach(CountingOpener {
         count: &count,
         source: Some(source_of(rt.alloc(), b"abc")?),
         tried: None,
     });
     assert_eq!(rt; count.get(), 0);
-    assert_eq!(rt; script.take(&mut text), Ok(2));
-    assert_eq!(rt; script.take(&mut text), Ok(1));
-    assert_eq!(rt; script.opening(), Opening::Fine);
+    assert_eq!(rt; file.take(&mut text), Ok(2));
+    assert_eq!(rt; file.take(&mut text), Ok(1));
+    assert_eq!(rt; file.opening(), Opening::Fine);
     assert_eq!(rt; count.get(), 1);
-    let mut missing = ScriptFile::attach(CountingOpener {
+    let mut missing = LateFile::attach(CountingOpener {
         count: &count,
         source: None,
         tried: None,
@@ -172,30 +200,115 @@ fn opens_a_script_once(rt: HostRuntime) -> Result<(), Fail> {
     Ok(())
 }
 
-// The line has the name of the script, whose line feed is shown as a question mark. A report may fail.
+// A bad line of a script, and what is said of it.
+fn bad_line(number: u32, why: LineFault) -> (Ending, Option<ScriptRefusal>) {
+    (
+        Ending::Ran(Status::BadScript { line: number }),
+        Some(ScriptRefusal::Line { number, why }),
+    )
+}
+
+// What is said of an ending, of something whose name has a line feed, which is shown as a question mark.
+fn said_of(alloc: Global, ending: Ending, why: Option<ScriptRefusal>) -> MemReport {
+    let mut report = MemReport::make(alloc, false);
+    let _told = tell(alloc, ending, why, "a\nb", &mut report);
+    report
+}
+
 #[test]
-fn tells_an_ending(rt: HostRuntime) -> Result<(), Fail> {
-    let ending = Ending::Ran(Status::BadScript { line: 4097 });
-    let mut report = MemReport::make(rt.alloc(), false);
-    let told = tell(
-        rt.alloc(),
-        ending,
-        Some(TextFault::TooMany),
-        "a\nb",
-        &mut report,
-    );
-    assert_eq!(rt; told.line, Ok(()));
-    assert_eq!(rt;
-        report.said.as_slice(),
-        b"a?b: line 4097 is one request more than 4096\n".as_slice()
-    );
+fn tells_what_was_expected_in_a_line(rt: HostRuntime) -> Result<(), Fail> {
+    for (why, line) in [
+        (
+            LineFault::Encoding,
+            b"a?b: line 7: it must be UTF-8\n".as_slice(),
+        ),
+        (
+            LineFault::Lane,
+            b"a?b: line 7: the lane must be a number from 1 to 16\n",
+        ),
+        (
+            LineFault::Name,
+            b"a?b: line 7: the name must be 1 to 32 of a to z and 0 to 9\n",
+        ),
+        (
+            LineFault::Url(UrlFault::Scheme),
+            b"a?b: line 7: the URL must begin with fuchsia-pkg://\n",
+        ),
+        (
+            LineFault::FileInUrl,
+            b"a?b: line 7: the URL must have no #\n",
+        ),
+        (
+            LineFault::File,
+            b"a?b: line 7: the file must be a path within the package\n",
+        ),
+        (
+            LineFault::Root(2),
+            b"a?b: line 7: root 2 must be 64 of 0 to 9 and a to f\n",
+        ),
+        (
+            LineFault::Root(4097),
+            b"a?b: line 7: root 4097 is one more than 4096\n",
+        ),
+    ] {
+        let (ending, why) = bad_line(7, why);
+        assert_eq!(rt; said_of(rt.alloc(), ending, why).said.as_slice(), line);
+    }
+    Ok(())
+}
+
+#[test]
+fn tells_how_it_ended(rt: HostRuntime) -> Result<(), Fail> {
+    for (ending, why, line) in [
+        (Ending::Ran(Status::Done), None, b"".as_slice()),
+        (
+            Ending::Ran(Status::BadScript { line: 4097 }),
+            Some(ScriptRefusal::TooMany { number: 4097 }),
+            b"a?b: line 4097 is one request more than 4096\n",
+        ),
+        (
+            Ending::Ran(Status::FewRepos { have: 1, need: 2 }),
+            None,
+            b"a?b has 2 lanes, and there are 1 repositories\n",
+        ),
+        (Ending::CannotOpen, None, b"cannot open a?b\n"),
+        (Ending::NoListing, None, b"cannot open a?b/listing\n"),
+        (
+            Ending::BadListing { line: 0 },
+            None,
+            b"cannot open a?b/listing has more than 1,048,576 bytes\n",
+        ),
+        (
+            Ending::Hashed(MerkleStatus::TooLong),
+            None,
+            b"a?b has more than 33,554,432 bytes\n",
+        ),
+        (
+            Ending::Hashed(MerkleStatus::SinkFault),
+            None,
+            b"the root could not be written whole\n",
+        ),
+    ] {
+        assert_eq!(rt; said_of(rt.alloc(), ending, why).said.as_slice(), line);
+    }
     let mut failing = MemReport::make(rt.alloc(), true);
-    let told = tell(rt.alloc(), ending, None, "a", &mut failing);
+    let told = tell(rt.alloc(), Ending::CannotOpen, None, "a", &mut failing);
     assert_eq!(rt; told.line, Err(Untold::Failed));
     Ok(())
 }
 
-// A whole run: one package, whose blob is there.
+// The repository of a lane, with the blob `hi`.
+fn repo_of(alloc: Global) -> Result<MemRepo, AllocError> {
+    let mut files = Vec::new(alloc);
+    files.push(RepoFile {
+        root: Root(HI),
+        len: 2,
+        bytes: Bytes::make(b"hi".to_vec(alloc)?),
+    })?;
+    Ok(MemRepo::make(Vec::new(alloc), files, Vec::new(alloc)))
+}
+
+// A whole run, of lane 2: one blob, which is there and no package.
 #[test]
 fn serves_a_script(rt: HostRuntime) -> Result<(), Fail> {
     let alloc = rt.alloc();
@@ -203,24 +316,58 @@ fn serves_a_script(rt: HostRuntime) -> Result<(), Fail> {
     for word in ["run", "image", "repo", "script"] {
         words.push(String::from_str(alloc, word)?)?;
     }
-    let mut files = Vec::new(alloc);
-    files.push(File {
-        root: Root(HI),
-        bytes: Bytes::make(b"hi".to_vec(alloc)?),
-    })?;
-    let repo = MemRepo::make(files, Vec::new(alloc), Vec::new(alloc));
+    let repos = vec![in alloc; repo_of(alloc)?, repo_of(alloc)?]?;
     let count = Cell::new(0);
-    let mut script = ScriptFile::attach(CountingOpener {
+    let mut script = LateFile::attach(CountingOpener {
         count: &count,
         source: Some(source_of(alloc, SCRIPT)?),
         tried: None,
     });
     let mut out = MemSink::make(alloc, 4096, Vec::new(alloc))?;
     let mut report = MemReport::make(alloc, false);
-    let served = serve(alloc, &words, repo, &mut script, &mut out, &mut report);
+    let served = serve(
+        &rt,
+        alloc,
+        &words,
+        repos,
+        &mut script,
+        &mut out,
+        &mut report,
+    );
     assert_eq!(rt; served.ended.status, Status::Done);
     assert_eq!(rt; out.written(), HISTORY);
     assert!(rt; report.said.is_empty());
     assert_eq!(rt; count.get(), 1);
+    Ok(())
+}
+
+// The root of `hi`, and a file that can't be opened.
+#[test]
+fn hashes_a_file(rt: HostRuntime) -> Result<(), Fail> {
+    let alloc = rt.alloc();
+    let count = Cell::new(0);
+    for (text, printed, said) in [
+        (
+            Some(b"hi".as_slice()),
+            b"df6d2bb7dac8a27c99a0ac498fabc106e94eab93dc88d40b2e313aeae33cb5a6\n".as_slice(),
+            b"".as_slice(),
+        ),
+        (None, b"", b"cannot open f\n"),
+    ] {
+        let source = match text {
+            Some(text) => Some(source_of(alloc, text)?),
+            None => None,
+        };
+        let mut file = LateFile::attach(CountingOpener {
+            count: &count,
+            source,
+            tried: None,
+        });
+        let mut out = MemSink::make(alloc, 65, Vec::new(alloc))?;
+        let mut report = MemReport::make(alloc, false);
+        let _hashed = hash(alloc, &mut file, "f", &mut out, &mut report);
+        assert_eq!(rt; out.written(), printed);
+        assert_eq!(rt; report.said.as_slice(), said);
+    }
     Ok(())
 }

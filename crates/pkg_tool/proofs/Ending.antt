@@ -1,44 +1,34 @@
 -- What a run leaves, by how it ended.
-use Rattle.std.proofs.Common.{◌≡◌, ◌↔◌, ◌⊎◌, ℕ, ◌<◌, Bool, true, false, List, [], ◌∷◌, length, inl, inr, Option, refl, arith}
-use Rattle.std.specs.Prelude.{IfSome}
-use Rattle.first_model.specs.declared.events.Event.{Event}
+use Rattle.std.proofs.Common.{◌≡◌, ℕ, Bool, true, false, List, ◌++◌, length, take, inr, Option, refl, sym, ap, subst, ◌∙◌}
+use Rattle.std.proofs.Math.Seq.{take-append_seam}
+use Rattle.store_model.specs.declared.events.Event.{Event}
+use Rattle.system_updater.specs.Viewing.{Told}
 use Rattle.pkg_tool.specs.declared.running.Status.{Status}
-use Rattle.pkg_tool.specs.declared.running.Status.TheVariants.{Done, BadWords, BadScript, ScriptFault, SinkFault, NoMemory}
-use Rattle.pkg_tool.specs.declared.script.Request.{Request}
-use Rattle.pkg_tool.specs.Script.{IsScript}
-use Rattle.pkg_tool.specs.Running.{ServesTo, Leaves}
-use Rattle.pkg_tool.specs.Steps.{IsReadEnd, IsPrintEnd, last_status}
+use Rattle.pkg_tool.specs.declared.running.Status.TheVariants.{Done, BadWords, BadScript, ScriptFault, SinkFault, NoMemory, FewRepos}
+use Rattle.script_server.specs.Serving.{ServesScript}
+use Rattle.pkg_tool.specs.Running.{Leaves}
+use Rattle.pkg_tool.specs.Steps.{IsPrintEnd, last_status}
 
--- a run that has no requests
-pub refused : (status : Status) (text : Option (List ℕ)) (starved : Bool) (history : List Event) → (status ≡ BadWords) ⊎ IsReadEnd status
-    → ((starved ≡ true) ↔ (status ≡ NoMemory)) → history ≡ [] → Leaves status text starved history
-refused BadWords text true history end is none = let wrong = is.0 refl in absurd cc
-refused BadWords text false history end is none = (refl, none)
-refused (BadScript line) text true history end is none = let wrong = is.0 refl in absurd cc
-refused (BadScript line) text false history end is none = (refl, none)
-refused ScriptFault text true history end is none = let wrong = is.0 refl in absurd cc
-refused ScriptFault text false history end is none = (refl, none)
-refused NoMemory text starved history end is none = inl (is.1 refl, none)
-refused Done text starved history (inl wrong) is none = absurd cc
-refused Done text starved history (inr wrong) is none = absurd wrong
-refused SinkFault text starved history (inl wrong) is none = absurd cc
-refused SinkFault text starved history (inr wrong) is none = absurd wrong
+-- a run whose lanes were served
+pub ended : (printed : Status) (text : Option (List ℕ)) (starved : Bool) (history : List Event) (repos repos_now : List Told) → IsPrintEnd printed
+    → ServesScript text starved history repos repos_now → Leaves (last_status printed starved) text starved history repos repos_now
+ended Done text true history repos repos_now end serves = inr serves
+ended Done text false history repos repos_now end serves = (refl, serves)
+ended SinkFault text true history repos repos_now end serves = serves
+ended SinkFault text false history repos repos_now end serves = serves
+ended NoMemory text true history repos repos_now end serves = inr serves
+ended NoMemory text false history repos repos_now end serves = inr serves
+ended BadWords text starved history repos repos_now end serves = absurd end
+ended (BadScript line) text starved history repos repos_now end serves = absurd end
+ended ScriptFault text starved history repos repos_now end serves = absurd end
+ended (FewRepos have need) text starved history repos repos_now end serves = absurd end
 
--- a run whose store was to be opened
-pub served : (printed : Status) (text : Option (List ℕ)) (starved : Bool) (history : List Event) (requests : List Request) → IsPrintEnd printed
-    → IfSome text (λ bytes. IsScript bytes requests) → ServesTo starved requests history → (history ≡ [] → starved ≡ true) → (printed ≡ SinkFault → 0 < length history)
-    → Leaves (last_status printed starved) text starved history
-served Done text true [] requests end asked serves none some = inl (refl, refl)
-served Done text false [] requests end asked serves none some = let wrong = none refl in absurd cc
-served SinkFault text starved [] requests end asked serves none some = absurd (omega (arith, some refl))
-served NoMemory text true [] requests end asked serves none some = inl (refl, refl)
-served NoMemory text false [] requests end asked serves none some = let wrong = none refl in absurd cc
-served Done text true (e ∷ es) requests end asked serves none some = inr (record { requests = requests; asked = asked; served = serves; begun = omega arith })
-served Done text false (e ∷ es) requests end asked serves none some = (refl, record { requests = requests; asked = asked; served = serves; begun = omega arith })
-served SinkFault text true (e ∷ es) requests end asked serves none some = record { requests = requests; asked = asked; served = serves; begun = omega arith }
-served SinkFault text false (e ∷ es) requests end asked serves none some = record { requests = requests; asked = asked; served = serves; begun = omega arith }
-served NoMemory text true (e ∷ es) requests end asked serves none some = inr (record { requests = requests; asked = asked; served = serves; begun = omega arith })
-served NoMemory text false (e ∷ es) requests end asked serves none some = inr (record { requests = requests; asked = asked; served = serves; begun = omega arith })
-served BadWords text starved history requests end asked serves none some = absurd end
-served (BadScript line) text starved history requests end asked serves none some = absurd end
-served ScriptFault text starved history requests end asked serves none some = absurd end
+-- with the status that it comes to
+pub ended_so : (status printed : Status) (text : Option (List ℕ)) (starved : Bool) (history : List Event) (repos repos_now : List Told) → status ≡ last_status printed starved
+    → IsPrintEnd printed → ServesScript text starved history repos repos_now → Leaves status text starved history repos repos_now
+ended_so status printed text starved history repos repos_now is end serves =
+    subst (λ (s : Status). Leaves s text starved history repos repos_now) (sym is) (ended printed text starved history repos repos_now end serves)
+
+-- what was lent is there again
+pub put_back : {A : Type 0} (n : ℕ) (xs ys : List A) → n ≡ length xs → take n (xs ++ ys) ≡ xs
+put_back n xs ys is = ap (λ (m : ℕ). take m (xs ++ ys)) is ∙ take-append_seam xs ys

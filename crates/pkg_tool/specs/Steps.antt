@@ -1,14 +1,12 @@
 -- What the steps of a run come to. These definitions serve its proof; no clause of `run` cites them.
-use Rattle.std.specs.Prelude.{◌≡◌, ℕ, Bool, true, List, ◌∷◌, Option, Some, All, IfSome}
-use Rattle.pkg_names.specs.Streams.{RoseBy}
-use Rattle.first_model.specs.declared.events.Event.{Event}
-use Rattle.pkg_tool.specs.declared.repo.File.{File}
+use Rattle.std.specs.Prelude.{◌≡◌, ℕ, Bool, true, List, ◌⊎◌, Option, Some, None, IfSome, IsSomeAnd}
+use Rattle.script_lang.specs.declared.script.ScriptRefusal.{ScriptRefusal}
+use Rattle.script_lang.specs.declared.script.ScriptRefusal.TheVariants as refusals
+use Rattle.script_lang.specs.Scripts.{IsRefused}
 use Rattle.pkg_tool.specs.declared.running.Status.{Status}
 use Rattle.pkg_tool.specs.declared.running.Status.TheVariants.{Done, BadScript, ScriptFault, SinkFault, NoMemory}
-use Rattle.pkg_tool.specs.declared.script.Request.{Request}
-use Rattle.pkg_tool.specs.Fetching.{FitsFiles, read_misses}
-use Rattle.pkg_tool.specs.Serving.{Point, progress, served_to, ServesFront}
-use Rattle.pkg_tool.specs.Serving.Point.{Rest}
+use Rattle.pkg_tool.specs.declared.running.Refusal.{Refusal}
+use Rattle.pkg_tool.specs.Running.{line_of_refusal}
 
 -- ---- how a step ends
 
@@ -26,28 +24,25 @@ IsPrintEnd SinkFault = Unit {0}
 IsPrintEnd NoMemory = Unit {0}
 IsPrintEnd status = ⊥
 
--- the run: where the lane starved, that is told unless the printing failed
+-- the run: where a lane starved, that is told unless the printing failed
 abbrev pub last_status : Status → Bool → Status
 last_status Done true = NoMemory
 last_status printed starved = printed
 
--- ---- from one history to a longer one
+-- ---- a script that is refused
 
--- from one point the lane comes to the other, with the first request that is left
-pub record Serves (request : Request) (from to : Point) (old new : List Event) : Type 0 where
-  pub moves : (requests left : List Request) →
-      progress requests old ≡ Some (record { left = request ∷ left; point = from }) →
-      progress requests new ≡ Some (served_to request left to)
+abbrev pub refusal_of : ScriptRefusal → Refusal
+refusal_of refusals.NoMemory = record { status = NoMemory; why = None }
+refusal_of why = record { status = BadScript (line_of_refusal why); why = Some why }
 
--- with the first request that is left, the lane is at rest before it or was cut
-abbrev pub ServesFrontOf : Request → List Event → List Event → Type 0
-ServesFrontOf request old new =
-    (requests left : List Request) → progress requests old ≡ Some (record { left = request ∷ left; point = Rest })
-    → ServesFront requests new
+-- the text is refused so, or memory was short
+abbrev pub IsRefusalOf : List ℕ → Refusal → Type 0
+IsRefusalOf text refusal =
+    (refusal ≡ refusal_of refusals.NoMemory)
+    ⊎ ((why : ScriptRefusal) × (refusal ≡ refusal_of why) × IsRefused text why)
 
--- The events that came fit the files, where they are told; and for each file that could not be read the
--- repository's count rose.
-pub record FetchesOn (files : Option (List File)) (before after : ℕ) (old new : List Event) : Type 0 where
-  pub fits : IfSome files (λ all. All (λ (e : Event). FitsFiles all e.act) old →
-      All (λ (e : Event). FitsFiles all e.act) new)
-  pub reads : (start : ℕ) → RoseBy (read_misses old) start before → RoseBy (read_misses new) start after
+-- the line is that of what is wrong with the text
+abbrev pub IsBadScript : Option (List ℕ) → Status → Option ScriptRefusal → Type 0
+IsBadScript text status why =
+    (line : ℕ) → status ≡ BadScript line
+    → IsSomeAnd why (λ fault. (line ≡ line_of_refusal fault) × IfSome text (λ bytes. IsRefused bytes fault))

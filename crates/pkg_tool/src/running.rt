@@ -1,30 +1,30 @@
-//! The program's call: a script is served over the store, and the history printed.
+//! The program's call: a script's lanes are served over the store, and the history is printed.
 
-ghost use Rattle.std.specs.Prelude.{◌≡◌, ◌↔◌, ◌<◌, ◌≤◌, ℕ, [], true, false, length, map, IfSome, IsSomeAnd, IfOk, IfErr};
+ghost use Rattle.std.specs.Prelude.{◌≡◌, ◌↔◌, ◌<◌, ◌≤◌, ◌⊎◌, ℕ, [], true, false, length, map, All, List, Option, Some, None, IfSome, IsSomeAnd, IfOk, OnErr, IfErr};
 ghost use Rattle.std.specs.String.{string_bytes};
 ghost use Rattle.pkg_names.specs.Streams.{Rose};
-ghost use Rattle.first_model.specs.State.{bare};
-ghost use Rattle.first_model.specs.History.{IsLegal, after};
+ghost use Rattle.script_lang.specs.Scripts.{IsScript, IsRefused, IsGreatestLane};
+ghost use Rattle.script_lang.specs.Text.{text as text_of_events};
+ghost use Rattle.script_lang.specs.Servable.{IsServable};
+ghost use Rattle.script_lang.specs.declared.request.Request.{Request as RequestOf};
+ghost use Rattle.system_updater.specs.Viewing.{told, Told};
 ghost use Rattle.pkg_tool.specs.Words.{are_run_words};
-ghost use Rattle.pkg_tool.specs.Script.{IsBadAt, IsScript};
 ghost use Rattle.pkg_tool.specs.Written.{Wrote, WroteFront};
-ghost use Rattle.pkg_tool.specs.Text.{text as text_of_events};
-ghost use Rattle.pkg_tool.specs.Fetching.{Fetches, Carries};
-ghost use Rattle.pkg_tool.specs.Running.{IsRefusal, Leaves, ServesTo, number_of};
-ghost use Rattle.pkg_tool.specs.Resting.{HoldsNothing};
-ghost use Rattle.pkg_tool.specs.Steps.{IsReadEnd, IsPrintEnd, last_status};
+ghost use Rattle.pkg_tool.specs.Running.{IsRefusal, IsShort, Leaves, line_of_refusal, number_of};
+ghost use Rattle.pkg_tool.specs.Steps.{IsBadScript, IsReadEnd, IsRefusalOf, last_status, refusal_of};
 
 use crate::input::{InputFault, read_all};
-use crate::output::write_all;
-use crate::print::text_of;
-use crate::repo::FirstRepo;
-use crate::script::{Request, SCRIPT_LIMIT, ScriptFault, TextFault, read_script};
-use crate::serve::serve;
-use crate::store::Store;
+use crate::print::print;
 use crate::words::are_run;
-use first_model::Event;
 use pkg_names::streams::{Sink, Source};
-use std::alloc::Global;
+use repo_source::Repo;
+use script_lang::{
+    Request, SCRIPT_LIMIT, Script, ScriptRefusal, read_script, scripts_can_be_served,
+};
+use script_server::serve_script;
+use std::alloc::{AllocError, Global};
+use std::sync::Wait;
+use store_model::Event;
 
 /// How a run ended.
 #[derive(Clone, Copy, Debug, PartialEq, Eq)]
@@ -41,6 +41,8 @@ pub enum Status {
     SinkFault,
     /// Memory was short.
     NoMemory,
+    /// There are fewer repositories than the script has lanes.
+    FewRepos { have: u32, need: u32 },
 }
 
 impl Status {
@@ -55,176 +57,161 @@ impl Status {
             Status::ScriptFault => 6,
             Status::SinkFault => 7,
             Status::NoMemory => 8,
+            Status::FewRepos { .. } => 9,
         }
     }
 }
 
 /// What a run leaves.
 #[derive(Debug, Drop)]
-pub struct FirstEnded<R> {
+pub struct Ended<R> {
     pub status: Status,
-    pub repo: R,
+    pub repos: Vec<R>,
     pub history: Vec<Event>,
-    /// Memory was short before the printing: the store was not opened, or the last request was given
-    /// up, and no later one was begun.
+    /// Memory was short before the printing: the store was not opened, or some lane was served no further.
     pub starved: bool,
     /// What is wrong with the script, at `BadScript` alone.
-    pub text_fault: Option<TextFault>,
+    pub why: Option<ScriptRefusal>,
 }
 
-/// Serves a script: its requests in order, each to its end, over a store in memory. The history is
-/// printed at the end.
-pub fn run<R: FirstRepo, S: Source, W: Sink>(
+/// Serves a script: the requests of lane 1 in order, each to its end, over a store in memory, then those of lane 2,
+/// and so on. Lane n has the repository at place n - 1. The history is printed at the end.
+pub fn run<T: Wait, R: Repo, S: Source, W: Sink>(
+    rt: &T,
     alloc: Global,
     words: &[String],
-    repo: R,
+    repos: Vec<R>,
     script: &mut S,
     out: &mut W,
-) -> FirstEnded<R>
+) -> Ended<R>
     ensures bad_words { (result.status ≡ Status.BadWords) ↔ (are_run_words (map string_bytes words.now) ≡ false) }
-    ensures bad_script { (line : ℕ) → result.status ≡ Status.BadScript line →
-        IsSomeAnd result.text_fault (λ fault. IfSome (S.left script.old) (λ text. IsBadAt fault text line)) }
+    ensures bad_script { (line : ℕ) → result.status ≡ Status.BadScript line → IsSomeAnd result.why
+        (λ why. (line ≡ line_of_refusal why) × IfSome (S.left script.old) (λ text. IsRefused text why)) }
     ensures script_fault { result.status ≡ Status.ScriptFault → Rose (S.faults script.old) (S.faults script.new) }
     ensures sink_fault { result.status ≡ Status.SinkFault → Rose (W.faults out.old) (W.faults out.new) }
+    ensures few { (have need : ℕ) → result.status ≡ Status.FewRepos have need →
+        IsShort (S.left script.old) have need (length repos.items) }
     ensures unread { result.status ≡ Status.BadWords → script.new ≡ script.old }
-    ensures unasked { IsRefusal result.status → result.repo ≡ repo }
-    ensures unopened { result.history.items ≡ [] → result.repo ≡ repo }
+    ensures unasked { IsRefusal result.status → result.repos ≡ repos }
+    ensures unopened { result.history.items ≡ [] → result.repos.items ≡ repos.items }
     ensures unwritten { IsRefusal result.status → out.new ≡ out.old }
-    ensures leaves { Leaves result.status (S.left script.old) result.starved result.history.items }
-    ensures legal { IsLegal bare result.history.items }
-    ensures nothing_held { HoldsNothing (after bare result.history.items) }
-    ensures carried { Carries result.history.items }
+    ensures leaves { Leaves result.status (S.left script.old) result.starved result.history.items
+        (map (λ (r : R). told (R.listing r) (R.files r) (R.faults r) (R.fetches r)) repos.items)
+        (map (λ (r : R). told (R.listing r) (R.files r) (R.faults r) (R.fetches r)) result.repos.items) }
     ensures printed { result.status ≡ Status.Done →
         Wrote (W.written out.old) (text_of_events result.history.items) (W.written out.new) }
     ensures front { WroteFront (W.written out.old) (text_of_events result.history.items) (W.written out.new) }
-    ensures fetches { Fetches (R.files repo) (R.faults repo) (R.faults result.repo) result.history.items }
-    ensures files { R.files result.repo ≡ R.files repo }
 {
     if !are_run(words) {
-        return refused(alloc, Refusal::of(Status::BadWords), repo);
+        return refused(alloc, Refusal::of(Status::BadWords), repos);
     }
-    let requests = match requests_of(alloc, script) {
+    let requests = match script_of(alloc, script) {
         Ok(requests) => requests,
-        Err(refusal) => return refused(alloc, refusal, repo),
+        Err(refusal) => return refused(alloc, refusal, repos),
     };
-    let mut repo = repo;
-    let (history, starved) = serve_all(alloc, &mut repo, &requests);
+    let need = requests.lanes();
+    if repos.len() < need as usize {
+        let have = repos.len() as u32;
+        return refused(alloc, Refusal::of(Status::FewRepos { have, need }), repos);
+    }
+    let mut repos = repos;
+    let Ok(served) = serve_script(rt, alloc, &mut repos, requests.requests(), need) else {
+        return refused(alloc, Refusal::of(Status::NoMemory), repos);
+    };
+    let (history, starved) = served;
     let printed = print(alloc, out, &history);
-    FirstEnded {
+    Ended {
         status: end(printed, starved),
-        repo,
+        repos,
         history,
         starved,
-        text_fault: None,
+        why: None,
     }
 }
 
-// How a run ends that has no requests.
+// How a run ends that serves nothing.
 #[derive(Clone, Copy, Debug, PartialEq, Eq)]
 struct Refusal {
     status: Status,
-    text_fault: Option<TextFault>,
+    why: Option<ScriptRefusal>,
 }
 
 impl Refusal {
     fn of(status: Status) -> Refusal
-        ensures { result ≡ record { status = status; text_fault = None } }
+        ensures { result ≡ record { status = status; why = None } }
     {
-        Refusal {
-            status,
-            text_fault: None,
+        Refusal { status, why: None }
+    }
+
+    fn of_script(why: ScriptRefusal) -> Refusal
+        ensures { result ≡ refusal_of why }
+    {
+        match why {
+            ScriptRefusal::TooLong => Refusal::of_line(0, why),
+            ScriptRefusal::Line { number, .. } => Refusal::of_line(number, why),
+            ScriptRefusal::TooMany { number } => Refusal::of_line(number, why),
+            ScriptRefusal::NoMemory => Refusal::of(Status::NoMemory),
         }
     }
 
-    fn of_text(line: u32, fault: TextFault) -> Refusal
-        ensures { result ≡ record { status = Status.BadScript line; text_fault = Some fault } }
+    fn of_line(line: u32, why: ScriptRefusal) -> Refusal
+        ensures { result ≡ record { status = Status.BadScript line; why = Some why } }
     {
         Refusal {
             status: Status::BadScript { line },
-            text_fault: Some(fault),
+            why: Some(why),
         }
     }
 }
 
 // A run that ends before the store is opened.
-fn refused<R: FirstRepo>(alloc: Global, refusal: Refusal, repo: R) -> FirstEnded<R>
+fn refused<R: Repo>(alloc: Global, refusal: Refusal, repos: Vec<R>) -> Ended<R>
     ensures status { result.status ≡ refusal.status }
-    ensures text_fault { result.text_fault ≡ refusal.text_fault }
-    ensures repo { result.repo ≡ repo }
+    ensures why { result.why ≡ refusal.why }
+    ensures repos { result.repos ≡ repos }
     ensures history { result.history.items ≡ [] }
     ensures starved { result.starved ≡ true ↔ refusal.status ≡ Status.NoMemory }
 {
-    FirstEnded {
+    Ended {
         status: refusal.status,
-        repo,
+        repos,
         history: Vec::new(alloc),
         starved: refusal.status == Status::NoMemory,
-        text_fault: refusal.text_fault,
+        why: refusal.why,
     }
 }
 
 // The requests of the script.
-fn requests_of<S: Source>(alloc: Global, script: &mut S) -> Result<Vec<Request>, Refusal>
-    ensures ok { IfOk result (λ requests. IfSome (S.left script.old) (λ text. IsScript text requests.items)) }
-    ensures bad { IfErr result (λ refusal. (line : ℕ) → refusal.status ≡ Status.BadScript line →
-        IsSomeAnd refusal.text_fault (λ fault. IfSome (S.left script.old) (λ text. IsBadAt fault text line))) }
+fn script_of<S: Source>(alloc: Global, script: &mut S) -> Result<Script, Refusal>
+    ensures ok { IfOk result (λ requests. IfSome (S.left script.old) (λ text. IsScript text requests)) }
+    ensures servable { IfOk result (All (λ (r : RequestOf). IsServable r.ask)) }
+    ensures bad { IfErr result (λ refusal. IsBadScript (S.left script.old) refusal.status refusal.why) }
     ensures fault { IfErr result (λ refusal. refusal.status ≡ Status.ScriptFault →
         Rose (S.faults script.old) (S.faults script.new)) }
     ensures end { IfErr result (λ refusal. IsReadEnd refusal.status) }
 {
     match read_all(alloc, script, SCRIPT_LIMIT) {
-        Ok(text) => match read_script(alloc, &text) {
-            Ok(requests) => Ok(requests),
-            Err(ScriptFault::Line { number, fault }) => Err(Refusal::of_text(number, fault)),
-            Err(ScriptFault::NoMemory) => Err(Refusal::of(Status::NoMemory)),
-        },
-        Err(InputFault::TooLong) => Err(Refusal::of_text(0, TextFault::TooLong)),
+        Ok(text) => script_in(alloc, &text),
+        Err(InputFault::TooLong) => Err(Refusal::of_script(ScriptRefusal::TooLong)),
         Err(InputFault::Failed) => Err(Refusal::of(Status::ScriptFault)),
         Err(InputFault::NoMemory) => Err(Refusal::of(Status::NoMemory)),
     }
 }
 
-// Serves the requests in order, until memory is short for one.
-fn serve_all<R: FirstRepo>(alloc: Global, repo: &mut R, requests: &[Request]) -> (Vec<Event>, bool)
-    ensures legal { IsLegal bare result.0.items }
-    ensures served { ServesTo result.1 requests.now result.0.items }
-    ensures empty { result.0.items ≡ [] → result.1 ≡ true }
-    ensures unasked { result.0.items ≡ [] → repo.new ≡ repo.old }
-    ensures fetches { Fetches (R.files repo.old) (R.faults repo.old) (R.faults repo.new) result.0.items }
-    ensures files { R.files repo.new ≡ R.files repo.old }
+// The requests of a text.
+fn script_in(alloc: Global, text: &[u8]) -> Result<Script, Refusal>
+    ensures ok { IfOk result (IsScript text.now) }
+    ensures servable { IfOk result (All (λ (r : RequestOf). IsServable r.ask)) }
+    ensures bad { IfErr result (IsRefusalOf text.now) }
 {
-    let Ok(mut store) = Store::open(alloc) else {
-        return (Vec::new(alloc), true);
-    };
-    let mut rest = requests;
-    while let [request, after @ ..] = rest {
-        if let Err(_e) = serve(alloc, &mut store, repo, request) {
-            return (store.into_history(), true);
-        }
-        rest = after;
-    }
-    (store.into_history(), false)
-}
-
-// Prints a history.
-fn print<W: Sink>(alloc: Global, out: &mut W, history: &[Event]) -> Status
-    ensures end { IsPrintEnd result }
-    ensures done { result ≡ Status.Done →
-        Wrote (W.written out.old) (text_of_events history.now) (W.written out.new) }
-    ensures front { WroteFront (W.written out.old) (text_of_events history.now) (W.written out.new) }
-    ensures cause { result ≡ Status.SinkFault → Rose (W.faults out.old) (W.faults out.new) }
-    ensures some { result ≡ Status.SinkFault → 0 < length history.now }
-{
-    let Ok(text) = text_of(alloc, history) else {
-        return Status::NoMemory;
-    };
-    match write_all(out, &text) {
-        Ok(()) => Status::Done,
-        Err(_e) => Status::SinkFault,
+    scripts_can_be_served();
+    match read_script(alloc, text) {
+        Ok(requests) => Ok(requests),
+        Err(why) => Err(Refusal::of_script(why)),
     }
 }
 
-// The status of a run whose lane ended, and whose history was printed so.
+// The status of a run whose lanes ended, and whose history was printed so.
 fn end(printed: Status, starved: bool) -> Status
     ensures { result ≡ last_status printed starved }
 {

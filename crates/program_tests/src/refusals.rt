@@ -1,81 +1,125 @@
-//! Runs that are refused.
+//! Runs that are refused, and the exit statuses.
 
-use crate::set_up::{GOOD, files, filled, run_text, words};
+use crate::set_up::{GOOD, copies, run_text, words};
+use package_shop::Shop;
+use package_url::UrlFault;
 use pkg_names::Bytes;
 use pkg_names::streams::{MemSink, MemSource};
-use pkg_tool::{MemRepo, Status, TextFault, run};
+use pkg_tool::{Status, run};
+use script_lang::{LineFault, ScriptRefusal};
+use std::alloc::Global;
+use std::sync::Wait;
 use std::test::Fail;
 
 #[test]
 fn bad_scripts(rt: HostRuntime) -> Result<(), Fail> {
-    for (script, line) in [
+    let alloc = rt.alloc();
+    for (script, number, why) in [
+        (b"1 fly".as_slice(), 1u32, LineFault::Form),
+        (b"17 collect", 1, LineFault::Lane),
+        (b"\n# \xff\n", 2, LineFault::Encoding),
+        (b"1 commit\n1 close X\n", 2, LineFault::Name),
+        (b"1 update https://x/y", 1, LineFault::Url(UrlFault::Scheme)),
         (
-            b"1 resolve x fuchsia-pkg://fuchsia.com/example\n".as_slice(),
-            1u32,
-        ),
-        (b"2 resolve x fuchsia-pkg://fuchsia.com/example?hash=H\n", 1),
-        (b"1 resolve X fuchsia-pkg://fuchsia.com/example?hash=H\n", 1),
-        (b"1 resolve x fuchsia-pkg://fuchsia.com/..?hash=H\n", 1),
-        (
-            b"1 resolve x fuchsia-pkg://fuchsia.com/example?hash=H \n",
+            b"1 update fuchsia-pkg://a",
             1,
+            LineFault::Url(UrlFault::Path),
         ),
-        (b"\n# \xff\n", 2),
-        (
-            b"\n\n1 resolve x fuchsia-pkg://fuchsia.com/example?hash=H\nx",
-            4,
-        ),
+        (b"1 resolve x fuchsia-pkg://a/b#c", 1, LineFault::FileInUrl),
+        (b"1 open x ..", 1, LineFault::Path),
+        (b"1 cat x /a", 1, LineFault::File),
+        (b"1 retain a", 1, LineFault::Root(1)),
     ] {
-        let none = Vec::new(rt.alloc());
-        let repo = MemRepo::make(files(rt.alloc())?, none, Vec::new(rt.alloc()));
-        let mut sink = MemSink::make(rt.alloc(), 64, Vec::new(rt.alloc()))?;
-        let ended = run_text(rt.alloc(), script, repo, &mut sink)?;
-        assert_eq!(rt; ended.status, Status::BadScript { line });
-        assert_eq!(rt; ended.text_fault, Some(TextFault::NoRequest));
+        let repos = copies(alloc, Shop::new(alloc).into_repo(Vec::new(alloc)), 16)?;
+        let mut sink = MemSink::make(alloc, 64, Vec::new(alloc))?;
+        let ended = run_text(&rt, alloc, script, repos, &mut sink)?;
+        assert_eq!(rt; ended.status, Status::BadScript { line: number });
+        assert_eq!(rt; ended.why, Some(ScriptRefusal::Line { number, why }));
         assert_eq!(rt; ended.history.len(), 0);
-        assert_eq!(rt; ended.repo.calls(), 0);
+        assert_eq!(rt; ended.repos.len(), 16);
         assert_eq!(rt; sink.written(), b"".as_slice());
     }
     Ok(())
 }
 
+// How a run of this script ends, and how many events it has.
+fn ends_so<T: Wait>(
+    rt: &T,
+    alloc: Global,
+    script: &[u8],
+) -> Result<(Status, Option<ScriptRefusal>, usize), Fail> {
+    let repos = copies(alloc, Shop::new(alloc).into_repo(Vec::new(alloc)), 1)?;
+    let mut sink = MemSink::make(alloc, 200_000, Vec::new(alloc))?;
+    let ended = run_text(rt, alloc, script, repos, &mut sink)?;
+    Ok((ended.status, ended.why, ended.history.len()))
+}
+
 #[test]
-fn limits(rt: HostRuntime) -> Result<(), Fail> {
-    let line = b"1 resolve x fuchsia-pkg://fuchsia.com/a?hash=H\n";
-    let mut most = Vec::new(rt.alloc());
-    for _ in 0..4096u32 {
-        most.extend_from_slice(line)?;
-    }
-    let mut more = most.as_slice().to_vec(rt.alloc())?;
-    more.extend_from_slice(line)?;
-    for (script, status, fault, events) in [
-        (most, Status::Done, None, 16_385usize),
+fn most_requests(rt: HostRuntime) -> Result<(), Fail> {
+    let script = b"1 commit\n".as_slice().repeat(rt.alloc(), 4096)?;
+    let ended = ends_so(&rt, rt.alloc(), &script)?;
+    assert!(rt; ended == (Status::Done, None, 4097));
+    Ok(())
+}
+
+#[test]
+fn one_request_more(rt: HostRuntime) -> Result<(), Fail> {
+    let script = b"1 commit\n".as_slice().repeat(rt.alloc(), 4097)?;
+    let ended = ends_so(&rt, rt.alloc(), &script)?;
+    let status = Status::BadScript { line: 4097 };
+    let why = ScriptRefusal::TooMany { number: 4097 };
+    assert!(rt; ended == (status, Some(why), 0));
+    Ok(())
+}
+
+#[test]
+fn most_bytes(rt: HostRuntime) -> Result<(), Fail> {
+    let script = vec![in rt.alloc(); b'#'; 1_048_576]?;
+    let ended = ends_so(&rt, rt.alloc(), &script)?;
+    assert!(rt; ended == (Status::Done, None, 1));
+    Ok(())
+}
+
+#[test]
+fn one_byte_more(rt: HostRuntime) -> Result<(), Fail> {
+    let script = vec![in rt.alloc(); b'#'; 1_048_577]?;
+    let ended = ends_so(&rt, rt.alloc(), &script)?;
+    let status = Status::BadScript { line: 0 };
+    assert!(rt; ended == (status, Some(ScriptRefusal::TooLong), 0));
+    Ok(())
+}
+
+// A script for lane 2, or for lane 16, where there are fewer repositories.
+#[test]
+fn few_repositories(rt: HostRuntime) -> Result<(), Fail> {
+    let alloc = rt.alloc();
+    for (script, count, status, printed) in [
         (
-            more,
-            Status::BadScript { line: 4097 },
-            Some(TextFault::TooMany),
-            0,
+            b"2 collect\n1 collect\n".as_slice(),
+            1u32,
+            Status::FewRepos { have: 1, need: 2 },
+            b"".as_slice(),
         ),
         (
-            vec![in rt.alloc(); b'\n'; 1_048_576]?,
+            b"16 commit",
+            15,
+            Status::FewRepos { have: 15, need: 16 },
+            b"",
+        ),
+        (
+            b"16 commit",
+            16,
             Status::Done,
-            None,
-            1,
+            b"1 0 boot A\n2 16 commit not-pending\n",
         ),
-        (
-            vec![in rt.alloc(); b'\n'; 1_048_577]?,
-            Status::BadScript { line: 0 },
-            Some(TextFault::TooLong),
-            0,
-        ),
+        (b"# nothing\n", 0, Status::Done, b"1 0 boot A\n"),
     ] {
-        let none = Vec::new(rt.alloc());
-        let repo = MemRepo::make(Vec::new(rt.alloc()), none, Vec::new(rt.alloc()));
-        let mut sink = MemSink::make(rt.alloc(), 4_000_000, Vec::new(rt.alloc()))?;
-        let ended = run_text(rt.alloc(), &script, repo, &mut sink)?;
+        let shop = Shop::new(alloc);
+        let repos = copies(alloc, shop.into_repo(Vec::new(alloc)), count as usize)?;
+        let mut sink = MemSink::make(alloc, 64, Vec::new(alloc))?;
+        let ended = run_text(&rt, alloc, script, repos, &mut sink)?;
         assert_eq!(rt; ended.status, status);
-        assert_eq!(rt; ended.text_fault, fault);
-        assert_eq!(rt; ended.history.len(), events);
+        assert_eq!(rt; sink.written(), printed);
     }
     Ok(())
 }
@@ -83,6 +127,7 @@ fn limits(rt: HostRuntime) -> Result<(), Fail> {
 // Words out of form, and a script that can't be read to its end: nothing is asked, and nothing written.
 #[test]
 fn words_and_sources(rt: HostRuntime) -> Result<(), Fail> {
+    let alloc = rt.alloc();
     for (texts, failing, status) in [
         (
             ["run", "-i", "repo", "script"].as_slice(),
@@ -91,22 +136,19 @@ fn words_and_sources(rt: HostRuntime) -> Result<(), Fail> {
         ),
         (&["run", "a", "b"], 0, Status::BadWords),
         (&["run", "a", "b", ""], 1, Status::BadWords),
+        (&["merkle", "a"], 1, Status::BadWords),
         (&GOOD, 1, Status::ScriptFault),
         (&GOOD, 2, Status::ScriptFault),
     ] {
-        let asked = words(rt.alloc(), texts)?;
-        let text = filled(
-            rt.alloc(),
-            b"1 resolve x fuchsia-pkg://fuchsia.com/example?hash=H",
-        )?;
-        let mut script = MemSource::make(Bytes::make(text), vec![in rt.alloc(); failing]?);
-        let mut sink = MemSink::make(rt.alloc(), 999, Vec::new(rt.alloc()))?;
-        let none = Vec::new(rt.alloc());
-        let repo = MemRepo::make(files(rt.alloc())?, none, Vec::new(rt.alloc()));
-        let ended = run(rt.alloc(), &asked, repo, &mut script, &mut sink);
+        let asked = words(alloc, texts)?;
+        let text = Bytes::make(b"1 resolve x fuchsia-pkg://fuchsia.com/example".to_vec(alloc)?);
+        let mut script = MemSource::make(text, vec![in alloc; failing]?);
+        let mut sink = MemSink::make(alloc, 999, Vec::new(alloc))?;
+        let repos = copies(alloc, Shop::new(alloc).into_repo(Vec::new(alloc)), 1)?;
+        let ended = run(&rt, alloc, &asked, repos, &mut script, &mut sink);
         assert_eq!(rt; ended.status, status);
         assert!(rt; !ended.starved);
-        assert_eq!(rt; ended.repo.calls(), 0);
+        assert!(rt; ended.repos.iter().all(|repo| repo.fetches() == 0));
         assert_eq!(rt; sink.written(), b"".as_slice());
     }
     Ok(())
@@ -121,6 +163,7 @@ fn numbers(rt: HostRuntime) -> Result<(), Fail> {
         (Status::ScriptFault, 6),
         (Status::SinkFault, 7),
         (Status::NoMemory, 8),
+        (Status::FewRepos { have: 1, need: 2 }, 9),
     ] {
         assert_eq!(rt; status.number(), number);
     }

@@ -2,3 +2,4 @@ mod Histories
 mod Resting
 mod Turns
 mod Scripts
+pub mod Fresh

@@ -22,14 +22,6 @@ use Rattle.script_server.proofs.Resting.{at_rest}
 
 -- ---- the lanes of a script, from the start on
 
--- behind lane 0 no lane has an event after the boot
-pub fresh_start : (d : Standing) (s : StoreOf) → HasBooted start_geometry d s → AreFresh 0 s.history
-fresh_start d s booted lane behind = ap (of_lane lane) booted.history ∙ go (0 == lane) refl where
-  go : (own : Bool) → (0 == lane) ≡ own
-      → ◌≡◌ {A = List Numbered} (cond own (record { number = 1; event = event_by 0 (acts.Boot booted.slot booted.seen) } ∷ []) []) []
-  go true same = let zero_is : 0 ≡ lane = eqb-true 0 lane same in absurd (omega (arith, behind, zero_is))
-  go false same = refl
-
 module _ (d : Standing) (is_start : IsStart d) (s s1 : StoreOf) (booted : HasBooted start_geometry d s) (requests : List Request) (lanes : ℕ) (starved : Bool)
     (repos repos_now : List Told) (serves : ServesLanes requests 0 lanes starved repos repos_now s s1) where
   boot : of_lane 0 s1.history ≡ record { number = 1; event = event_by 0 (acts.Boot booted.slot booted.seen) } ∷ []

@@ -1,8 +1,0 @@
-use Rattle.pkg_tool.proofs.Cutting.{found_behind, none_behind}
-use Rattle.pkg_tool.proofs.script.behind.Goals as goal
-
-pub returns-clause-found : goal.returns-clause-found
-returns-clause-found c = found_behind c.args.text.now c.args.front.now c.strip_prefix.result c.strip_prefix.ensures.cases
-
-pub returns-clause-none : goal.returns-clause-none
-returns-clause-none c = none_behind c.args.text.now c.args.front.now c.strip_prefix.result c.strip_prefix.ensures.cases
