@@ -1,0 +1,13 @@
+mod Counts
+mod Ended
+mod Fine
+mod Gathered
+mod Inner
+mod Judged
+mod Listed
+mod Lists
+mod Named
+mod Outputs
+mod Posted
+mod Puts
+mod Taken
