@@ -14,9 +14,7 @@ use plain_stock::is_naming;
 
 // The package that arrives is marked, if it names the blob.
 fn mark_one(queue: &mut Queue, books: &Shelf, arrival: &Arriving, root: &Root, end: FetchEnd)
-    ensures { queue.new ≡ record queue.old {
-      marks = marks_with books.now root.now end arrival.now queue.old.marks;
-    } }
+    ensures { queue.new ≡ record queue.old { marks = marks_with books.now root.now end arrival.now queue.old.marks } }
 {
     if is_naming(books, &arrival.root, root) {
         queue.mark(arrival.ticket, end);
@@ -25,9 +23,7 @@ fn mark_one(queue: &mut Queue, books: &Shelf, arrival: &Arriving, root: &Root, e
 
 // Each package that names the blob is marked.
 fn mark_each(queue: &mut Queue, books: &Shelf, arriving: &[Arriving], root: &Root, end: FetchEnd)
-    ensures { queue.new ≡ record queue.old {
-      marks = marks_after books.now root.now end arriving.now queue.old.marks;
-    } }
+    ensures { queue.new ≡ record queue.old { marks = marks_after books.now root.now end arriving.now queue.old.marks } }
 {
     for arrival in arriving {
         mark_one(queue, books, arrival, root, end);
