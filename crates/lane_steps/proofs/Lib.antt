@@ -1,0 +1,4 @@
+mod Asked
+mod Grown
+pub mod Kept
+mod Staged

@@ -1,0 +1,14 @@
+use Rattle.lane_steps.proofs.Asked.{asking_landed, asking_not_landed}
+use Rattle.lane_steps.proofs.Kept.{fits_in}
+use Rattle.lane_steps.specs.declared.hand.Hand.TheVariants as hands
+use Rattle.lane_steps.proofs.packages.land.Goals as goal
+
+pub returns-in-Landed-clause-hand : goal.returns-in-Landed-clause-hand
+returns-in-Landed-clause-hand g c =
+    asking_landed (g.K.Desk.kept c.args.desk.now) c.in-Roomy.ticket c.in-Roomy.claim (g.K.Desk.view c.args.desk.now) (g.K.Desk.view c.land.new.self) c.in-Landed.ensures.event
+    (fits_in c.args.hand (hands.Roomy c.in-Roomy.ticket c.in-Roomy.claim) (g.K.Desk.view c.args.desk.now) c.in-Roomy.is c.requires)
+
+pub returns-in-Ended-clause-hand : goal.returns-in-Ended-clause-hand
+returns-in-Ended-clause-hand g c =
+    asking_not_landed (g.K.Desk.kept c.args.desk.now) c.in-Ended.field-0 c.in-Roomy.ticket c.in-Roomy.claim (g.K.Desk.view c.args.desk.now) (g.K.Desk.view c.land.new.self) c.in-Ended.ensures.event
+    (fits_in c.args.hand (hands.Roomy c.in-Roomy.ticket c.in-Roomy.claim) (g.K.Desk.view c.args.desk.now) c.in-Roomy.is c.requires)
