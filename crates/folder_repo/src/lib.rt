@@ -9,7 +9,7 @@ mod listing;
 
 pub use files::{BlobFiles, HostFiles};
 pub use folder::DirRepo;
-pub use listing::DirFault;
+pub use listing::{DirFault, read_listing};
 
 #[cfg(test)]
 mod tests;

@@ -4,12 +4,15 @@ ghost use Rattle.std.specs.Prelude.{◌≡◌, ◌↔◌, ◌⊎◌, Some, Err, 
 ghost use Rattle.std.specs.String.{string_bytes};
 ghost use Rattle.folder_repo.specs.Folder.{listing_name as name_of_listing, SaysListing, ReadsListing};
 ghost use Rattle.folder_repo.specs.Listing.{listing_in};
+ghost use Rattle.system_lists.specs.Lists.{IsPinnedList};
 ghost use Rattle.folder_repo.specs.declared.listing.DirFault.TheVariants as faults;
 
 use crate::files::BlobFiles;
 use std::alloc::{AllocError, Global};
 use std::io::{ErrorKind, Read};
-use system_lists::{LIST_LIMIT, PinnedList, StaticFault, read_static};
+use system_lists::{
+    LIST_LIMIT, PinnedList, StaticFault, read_static, texts_stand_for_what_is_read,
+};
 
 /// Why a folder is no repository.
 #[derive(Clone, Copy, Debug, PartialEq, Eq)]
@@ -30,13 +33,15 @@ impl From<AllocError> for DirFault {
     }
 }
 
-// The listing of a folder.
-pub(crate) fn read_listing<F: BlobFiles>(
+/// The listing of a folder: the packages that its file `listing` names. Of that file one byte more is read than a
+/// listing may have.
+pub fn read_listing<F: BlobFiles>(
     files: &F,
     alloc: Global,
     folder: &str,
 ) -> Result<PinnedList, DirFault>
-    ensures { ReadsListing (F.files files.now) folder.now result }
+    ensures reads { ReadsListing (F.files files.now) folder.now result }
+    ensures valid { IfOk result IsPinnedList }
 {
     let Ok(name) = listing_name(alloc, folder) else {
         return Err(DirFault::NoMemory);
@@ -58,7 +63,8 @@ fn listing_name(alloc: Global, folder: &str) -> Result<String, AllocError>
 
 // The listing in a file, of which one byte more is read than a listing may have.
 fn read_text<F: Read + Drop>(alloc: Global, file: F) -> Result<PinnedList, DirFault>
-    ensures { IfSome (F.remaining file) (λ all. SaysListing (Some all) result) }
+    ensures says { IfSome (F.remaining file) (λ all. SaysListing (Some all) result) }
+    ensures valid { IfOk result IsPinnedList }
 {
     let mut text = Vec::new(alloc);
     match file.take(LIST_LIMIT as u64 + 1).read_to_end(&mut text) {
@@ -79,8 +85,10 @@ fn fault_of(kind: ErrorKind) -> DirFault
 
 // The listing that a text stands for.
 fn listing_of(alloc: Global, text: &[u8]) -> Result<PinnedList, DirFault>
-    ensures { (result ≡ listing_in text.now) ⊎ (result ≡ Err faults.NoMemory) }
+    ensures listing { (result ≡ listing_in text.now) ⊎ (result ≡ Err faults.NoMemory) }
+    ensures valid { IfOk result IsPinnedList }
 {
+    texts_stand_for_what_is_read();
     if text.len() > LIST_LIMIT {
         return Err(DirFault::BadListing { line: 0 });
     }

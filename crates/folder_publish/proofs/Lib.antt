@@ -1,0 +1,4 @@
+mod Names
+mod Puts
+mod Reading
+mod Took
