@@ -1,4 +1,2 @@
-pub mod Endings
-pub mod Lines
 pub mod Names
 pub mod Openings

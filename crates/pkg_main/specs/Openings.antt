@@ -1,7 +1,7 @@
 -- What the opening of the script came to.
 use Rattle.std.specs.Prelude.{Option, None, Some}
-use Rattle.pkg_main.specs.declared.late_file.Opening.{Opening}
-use Rattle.pkg_main.specs.declared.late_file.Opening.TheVariants.{Fine}
+use Rattle.pkg_report.specs.declared.ending.Opening.{Opening}
+use Rattle.pkg_report.specs.declared.ending.Opening.TheVariants.{Fine}
 use Rattle.pkg_main.specs.declared.late_file.State.{State}
 use Rattle.pkg_main.specs.declared.late_file.State.TheVariants.{Unopened, Open, Failed}
 

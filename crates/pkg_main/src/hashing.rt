@@ -6,14 +6,13 @@ ghost use Rattle.pkg_names.specs.Streams.{Rose};
 ghost use Rattle.pkg_merkle.specs.Merkle.{merkle_root};
 ghost use Rattle.pkg_tool.specs.Written.{Wrote, WroteFront};
 ghost use Rattle.pkg_tool.specs.Hashing.{IsHashingRefusal, line_of_root};
-ghost use Rattle.pkg_main.specs.Endings.{ending_of_hashing, number_of_ending};
-ghost use Rattle.pkg_main.specs.Lines.{line_of};
+ghost use Rattle.pkg_report.specs.Endings.{ending_of_hashing, number_of_ending};
+ghost use Rattle.pkg_report.specs.Lines.{line_of};
 
-use crate::ending::Ending;
 use crate::late_file::Late;
-use crate::report::{Report, Told, Untold, tell};
 use pkg_merkle::BYTES_LIMIT;
 use pkg_names::streams::Sink;
+use pkg_report::{Ending, Report, Told, Untold, tell};
 use pkg_tool::{MerkleStatus, merkle};
 use std::alloc::Global;
 

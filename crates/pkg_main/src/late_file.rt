@@ -1,23 +1,15 @@
 //! A file that the words name, opened when it is first read.
 
 ghost use Rattle.std.specs.Prelude.{◌≡◌, ◌≢◌, ℕ, Option, None, Some, OnOk, IfErr};
-ghost use Rattle.pkg_main.specs.declared.late_file.Opening.{Opening as OpeningOf};
+ghost use Rattle.pkg_report.specs.declared.ending.Opening.{Opening as OpeningOf};
 ghost use Rattle.pkg_main.specs.Openings.{opening_in, opening_or_fine};
 
 use pkg_names::streams::{FileSource, Source, SourceFailed};
+use pkg_report::Opening;
 use std::fs;
 use std::fs::File;
 use std::io::ErrorKind;
 use std::rt::Files;
-
-/// What the opening of the file came to.
-#[derive(Clone, Copy, Debug, PartialEq, Eq)]
-pub(crate) enum Opening {
-    /// It was opened, or was not to be.
-    Fine,
-    Missing,
-    NoMemory,
-}
 
 /// A source that is opened when it is first read.
 pub(crate) trait Late: Source {

@@ -10,14 +10,13 @@ ghost use Rattle.system_updater.specs.Viewing.{told};
 ghost use Rattle.pkg_tool.specs.Words.{are_run_words};
 ghost use Rattle.pkg_tool.specs.Written.{Wrote, WroteFront};
 ghost use Rattle.pkg_tool.specs.Running.{IsRefusal, IsShort, Leaves, line_of_refusal};
-ghost use Rattle.pkg_main.specs.Endings.{ending_of, number_of_ending};
-ghost use Rattle.pkg_main.specs.Lines.{line_of};
+ghost use Rattle.pkg_report.specs.Endings.{ending_of, number_of_ending};
+ghost use Rattle.pkg_report.specs.Lines.{line_of};
 ghost use Rattle.pkg_main.specs.Names.{script_in};
 
-use crate::ending::Ending;
 use crate::late_file::Late;
-use crate::report::{Report, Told, Untold, tell};
 use pkg_names::streams::Sink;
+use pkg_report::{Ending, Report, Told, Untold, tell};
 use pkg_tool::{Ended, Status, run};
 use repo_source::Repo;
 use std::alloc::Global;

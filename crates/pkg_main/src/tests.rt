@@ -1,16 +1,19 @@
-use crate::ending::Ending;
+ghost use Rattle.repo_publish.specs.Post.{NamesOnce};
+
 use crate::hashing::hash;
-use crate::late_file::{FileOpener, Late, LateFile, Opener, Opening};
-use crate::report::{NotSaid, Report, Untold, tell};
+use crate::late_file::{FileOpener, Late, LateFile, Opener};
+use crate::publishing::{PlacedTree, TroubledPost, publish_tree};
 use crate::repos::repos_in;
 use crate::serving::serve;
+use far_archive::FarEntry;
+use folder_publish::PostTrouble;
 use folder_repo::DirFault;
-use package_url::UrlFault;
 use pkg_names::streams::{MemSink, MemSource, Source};
-use pkg_names::{Bytes, Root, read_path};
-use pkg_tool::{MerkleStatus, Status};
+use pkg_names::{Bytes, Pinned, Root, read_file, read_path};
+use pkg_report::{MemReport, Opening};
+use pkg_tool::Status;
+use repo_publish::{MemPost, MemTree};
 use repo_source::{FetchReply, FindReply, MemRepo, Repo, RepoFile};
-use script_lang::{LineFault, ScriptRefusal};
 use std::alloc::{AllocError, Global};
 use std::cell::Cell;
 use std::rt::Files;
@@ -135,40 +138,6 @@ impl Opener for CountingOpener<'_> {
     }
 }
 
-// What was said, kept; or a report that fails.
-#[derive(Drop)]
-struct MemReport {
-    said: Vec<u8>,
-    fails: bool,
-    faults: u64,
-}
-
-impl MemReport {
-    fn make(alloc: Global, fails: bool) -> MemReport {
-        MemReport {
-            said: Vec::new(alloc),
-            fails,
-            faults: 0,
-        }
-    }
-}
-
-impl Report for MemReport {
-    ghost use Rattle.std.specs.Prelude.{Some};
-
-    ghost said = { λ r. Some r.said.items };
-
-    ghost faults = { λ r. r.faults };
-
-    fn say(&mut self, line: &[u8]) -> Result<(), NotSaid> {
-        if self.fails || self.said.extend_from_slice(line).is_err() {
-            self.faults = self.faults.saturating_add(1);
-            return Err(NotSaid);
-        }
-        Ok(())
-    }
-}
-
 fn source_of(alloc: Global, text: &[u8]) -> Result<MemSource, AllocError> {
     Ok(MemSource::make(Bytes::make(text.to_vec(alloc)?), Vec::new(alloc)))
 }
@@ -197,103 +166,6 @@ fn opens_a_file_once(rt: HostRuntime) -> Result<(), Fail> {
     assert!(rt; missing.take(&mut text).is_err());
     assert_eq!(rt; missing.opening(), Opening::Missing);
     assert_eq!(rt; count.get(), 2);
-    Ok(())
-}
-
-// A bad line of a script, and what is said of it.
-fn bad_line(number: u32, why: LineFault) -> (Ending, Option<ScriptRefusal>) {
-    (
-        Ending::Ran(Status::BadScript { line: number }),
-        Some(ScriptRefusal::Line { number, why }),
-    )
-}
-
-// What is said of an ending, of something whose name has a line feed, which is shown as a question mark.
-fn said_of(alloc: Global, ending: Ending, why: Option<ScriptRefusal>) -> MemReport {
-    let mut report = MemReport::make(alloc, false);
-    let _told = tell(alloc, ending, why, "a\nb", &mut report);
-    report
-}
-
-#[test]
-fn tells_what_was_expected_in_a_line(rt: HostRuntime) -> Result<(), Fail> {
-    for (why, line) in [
-        (
-            LineFault::Encoding,
-            b"a?b: line 7: it must be UTF-8\n".as_slice(),
-        ),
-        (
-            LineFault::Lane,
-            b"a?b: line 7: the lane must be a number from 1 to 16\n",
-        ),
-        (
-            LineFault::Name,
-            b"a?b: line 7: the name must be 1 to 32 of a to z and 0 to 9\n",
-        ),
-        (
-            LineFault::Url(UrlFault::Scheme),
-            b"a?b: line 7: the URL must begin with fuchsia-pkg://\n",
-        ),
-        (
-            LineFault::FileInUrl,
-            b"a?b: line 7: the URL must have no #\n",
-        ),
-        (
-            LineFault::File,
-            b"a?b: line 7: the file must be a path within the package\n",
-        ),
-        (
-            LineFault::Root(2),
-            b"a?b: line 7: root 2 must be 64 of 0 to 9 and a to f\n",
-        ),
-        (
-            LineFault::Root(4097),
-            b"a?b: line 7: root 4097 is one more than 4096\n",
-        ),
-    ] {
-        let (ending, why) = bad_line(7, why);
-        assert_eq!(rt; said_of(rt.alloc(), ending, why).said.as_slice(), line);
-    }
-    Ok(())
-}
-
-#[test]
-fn tells_how_it_ended(rt: HostRuntime) -> Result<(), Fail> {
-    for (ending, why, line) in [
-        (Ending::Ran(Status::Done), None, b"".as_slice()),
-        (
-            Ending::Ran(Status::BadScript { line: 4097 }),
-            Some(ScriptRefusal::TooMany { number: 4097 }),
-            b"a?b: line 4097 is one request more than 4096\n",
-        ),
-        (
-            Ending::Ran(Status::FewRepos { have: 1, need: 2 }),
-            None,
-            b"a?b has 2 lanes, and there are 1 repositories\n",
-        ),
-        (Ending::CannotOpen, None, b"cannot open a?b\n"),
-        (Ending::NoListing, None, b"cannot open a?b/listing\n"),
-        (
-            Ending::BadListing { line: 0 },
-            None,
-            b"cannot open a?b/listing has more than 1,048,576 bytes\n",
-        ),
-        (
-            Ending::Hashed(MerkleStatus::TooLong),
-            None,
-            b"a?b has more than 33,554,432 bytes\n",
-        ),
-        (
-            Ending::Hashed(MerkleStatus::SinkFault),
-            None,
-            b"the root could not be written whole\n",
-        ),
-    ] {
-        assert_eq!(rt; said_of(rt.alloc(), ending, why).said.as_slice(), line);
-    }
-    let mut failing = MemReport::make(rt.alloc(), true);
-    let told = tell(rt.alloc(), Ending::CannotOpen, None, "a", &mut failing);
-    assert_eq!(rt; told.line, Err(Untold::Failed));
     Ok(())
 }
 
@@ -336,7 +208,7 @@ fn serves_a_script(rt: HostRuntime) -> Result<(), Fail> {
     );
     assert_eq!(rt; served.ended.status, Status::Done);
     assert_eq!(rt; out.written(), HISTORY);
-    assert!(rt; report.said.is_empty());
+    assert!(rt; report.said().is_empty());
     assert_eq!(rt; count.get(), 1);
     Ok(())
 }
@@ -367,7 +239,70 @@ fn hashes_a_file(rt: HostRuntime) -> Result<(), Fail> {
         let mut report = MemReport::make(alloc, false);
         let _hashed = hash(alloc, &mut file, "f", &mut out, &mut report);
         assert_eq!(rt; out.written(), printed);
-        assert_eq!(rt; report.said.as_slice(), said);
+        assert_eq!(rt; report.said(), said);
+    }
+    Ok(())
+}
+
+impl PlacedTree for MemTree {
+    ghost use Rattle.std.specs.Prelude.{None};
+
+    ghost place = { λ _. None };
+
+    fn place(&self) -> Option<&str> {
+        None
+    }
+}
+
+impl TroubledPost for MemPost {
+    ghost use Rattle.std.specs.Prelude.{None};
+
+    ghost trouble = { λ _. None };
+
+    fn trouble(&self) -> Option<PostTrouble> {
+        None
+    }
+}
+
+fn no_listing(alloc: Global) -> Vec<Pinned>
+    ensures { NamesOnce result.items }
+{
+    Vec::new(alloc)
+}
+
+// A file that is published, and a post whose first call fails.
+#[test]
+fn publishes_a_tree(rt: HostRuntime) -> Result<(), Fail> {
+    let alloc = rt.alloc();
+    let path = read_path(alloc, b"notes")?;
+    for (failing, printed, said) in [
+        (
+            9,
+            b"notes/0=6f10af103b268f9b6f884d5aa95a7537dc8cd8501f5b1b6234fa7605cb8b9067\n".as_slice(),
+            b"".as_slice(),
+        ),
+        (1, b"", b"r failed\n"),
+    ] {
+        let file = FarEntry {
+            name: read_file(alloc, b"data/text")?,
+            bytes: Bytes::make(b"the new text\n".to_vec(alloc)?),
+        };
+        let mut tree = MemTree::make(vec![in alloc; file]?, Vec::new(alloc));
+        let mut post = MemPost::make(no_listing(alloc), Vec::new(alloc), vec![in alloc; failing]?);
+        let mut out = MemSink::make(alloc, 80, Vec::new(alloc))?;
+        let mut report = MemReport::make(alloc, false);
+        let _ended = publish_tree(
+            alloc,
+            &path,
+            &mut tree,
+            &mut post,
+            "f",
+            "r",
+            &mut out,
+            &mut report,
+        );
+        assert_eq!(rt; out.written(), printed);
+        assert_eq!(rt; report.said(), said);
     }
     Ok(())
 }

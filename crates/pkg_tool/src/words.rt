@@ -1,8 +1,8 @@
 //! The words of a command.
 
-ghost use Rattle.std.specs.Prelude.{◌≡◌, ◌↔◌, map, true, IsOk, IfOk};
+ghost use Rattle.std.specs.Prelude.{◌≡◌, ◌↔◌, ◌∷◌, [], map, true, is_some, IsOk, IfOk, IfSome};
 ghost use Rattle.std.specs.String.{string_bytes};
-ghost use Rattle.pkg_tool.specs.Words.{are_run_words, are_words, is_word, words_of};
+ghost use Rattle.pkg_tool.specs.Words.{are_run_words, are_three_after, are_words, is_one_after, is_word, words_of};
 
 /// What the words ask for, and what they name.
 #[derive(Clone, Copy, Debug)]
@@ -17,6 +17,12 @@ pub enum Command<'a> {
     Merkle {
         file: &'a str,
     },
+    /// `publish FOLDER REPO PATH`
+    Publish {
+        folder: &'a str,
+        repo: &'a str,
+        path: &'a str,
+    },
 }
 
 /// The words are no command.
@@ -29,32 +35,19 @@ pub fn read_words<'a>(words: &'a [String]) -> Result<Command<'a>, BadWords>
     ensures exact { IsOk result ↔ (are_words (map string_bytes words.now) ≡ true) }
     ensures same { IfOk result (λ command. words_of command ≡ map string_bytes words.now) }
 {
-    match words {
-        [command, image, repo, script] => {
-            if command.as_str() == "run"
-                && may_name(image.as_bytes())
-                && may_name(repo.as_bytes())
-                && may_name(script.as_bytes())
-            {
-                Ok(Command::Run {
-                    image: image.as_str(),
-                    repo: repo.as_str(),
-                    script: script.as_str(),
-                })
-            } else {
-                Err(BadWords)
-            }
-        }
-        [command, file] => {
-            if command.as_str() == "merkle" && may_name(file.as_bytes()) {
-                Ok(Command::Merkle {
-                    file: file.as_str(),
-                })
-            } else {
-                Err(BadWords)
-            }
-        }
-        _ => Err(BadWords),
+    if let Some((image, repo, script)) = three_after(words, "run") {
+        return Ok(Command::Run {
+            image,
+            repo,
+            script,
+        });
+    }
+    if let Some((folder, repo, path)) = three_after(words, "publish") {
+        return Ok(Command::Publish { folder, repo, path });
+    }
+    match one_after(words, "merkle") {
+        Some(file) => Ok(Command::Merkle { file }),
+        None => Err(BadWords),
     }
 }
 
@@ -62,14 +55,45 @@ pub fn read_words<'a>(words: &'a [String]) -> Result<Command<'a>, BadWords>
 pub(crate) fn are_run(words: &[String]) -> bool
     ensures { result ≡ are_run_words (map string_bytes words.now) }
 {
+    three_after(words, "run").is_some()
+}
+
+// The three words behind this command.
+fn three_after<'a>(words: &'a [String], name: &str) -> Option<(&'a str, &'a str, &'a str)>
+    ensures exact { is_some result ≡ are_three_after name.now (map string_bytes words.now) }
+    ensures same { IfSome result (λ found.
+        map string_bytes words.now ≡ name.now ∷ found.0.now ∷ found.1.now ∷ found.2.now ∷ []) }
+{
     match words {
-        [command, image, repo, script] => {
-            command.as_str() == "run"
-                && may_name(image.as_bytes())
-                && may_name(repo.as_bytes())
-                && may_name(script.as_bytes())
+        [command, first, second, third] => {
+            if command.as_str() == name
+                && may_name(first.as_bytes())
+                && may_name(second.as_bytes())
+                && may_name(third.as_bytes())
+            {
+                Some((first.as_str(), second.as_str(), third.as_str()))
+            } else {
+                None
+            }
         }
-        _ => false,
+        _ => None,
+    }
+}
+
+// The word behind this command.
+fn one_after<'a>(words: &'a [String], name: &str) -> Option<&'a str>
+    ensures exact { is_some result ≡ is_one_after name.now (map string_bytes words.now) }
+    ensures same { IfSome result (λ found. map string_bytes words.now ≡ name.now ∷ found.now ∷ []) }
+{
+    match words {
+        [command, word] => {
+            if command.as_str() == name && may_name(word.as_bytes()) {
+                Some(word.as_str())
+            } else {
+                None
+            }
+        }
+        _ => None,
     }
 }
 

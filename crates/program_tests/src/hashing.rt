@@ -40,6 +40,7 @@ fn last_of<'a>(command: Result<Command<'a>, BadWords>) -> Option<&'a str> {
     match command {
         Ok(Command::Run { script, .. }) => Some(script),
         Ok(Command::Merkle { file }) => Some(file),
+        Ok(Command::Publish { path, .. }) => Some(path),
         Err(BadWords) => None,
     }
 }
@@ -53,6 +54,9 @@ fn commands(rt: HostRuntime) -> Result<(), Fail> {
         (&["merkle", "-a"], None),
         (&["merkle", ""], None),
         (&["merkel", "a"], None),
+        (&["publish", "a", "b", "c"], Some("c")),
+        (&["publish", "a", "-b", "c"], None),
+        (&["publish", "a", "b"], None),
         (&[], None),
     ] {
         let asked = words(rt.alloc(), texts)?;

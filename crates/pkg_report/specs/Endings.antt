@@ -2,17 +2,19 @@
 use Rattle.std.specs.Prelude.{ℕ}
 use Rattle.folder_repo.specs.declared.listing.DirFault.{DirFault}
 use Rattle.folder_repo.specs.declared.listing.DirFault.TheVariants as folders
+use Rattle.pkg_names.specs.declared.path.PathFault.{PathFault}
+use Rattle.pkg_names.specs.declared.path.PathFault.TheVariants as paths
 use Rattle.pkg_tool.specs.declared.running.Status.{Status}
-use Rattle.pkg_tool.specs.declared.running.Status.TheVariants.{ScriptFault, NoMemory}
+use Rattle.pkg_tool.specs.declared.running.Status.TheVariants.{BadWords, ScriptFault, NoMemory}
 use Rattle.pkg_tool.specs.declared.hashing.MerkleStatus.{MerkleStatus}
 use Rattle.pkg_tool.specs.declared.hashing.MerkleStatus.TheVariants.{ReadFault}
 use Rattle.pkg_tool.specs.Running.{number_of}
 use Rattle.pkg_tool.specs.Hashing.{number_of_hashing}
-use Rattle.pkg_main.specs.declared.late_file.Opening.{Opening}
-use Rattle.pkg_main.specs.declared.late_file.Opening.TheVariants.{Missing}
-use Rattle.pkg_main.specs.declared.late_file.Opening.TheVariants as openings
-use Rattle.pkg_main.specs.declared.ending.Ending.{Ending}
-use Rattle.pkg_main.specs.declared.ending.Ending.TheVariants.{Ran, Hashed, CannotOpen, NoListing, BadListing}
+use Rattle.pkg_report.specs.declared.ending.Opening.{Opening}
+use Rattle.pkg_report.specs.declared.ending.Opening.TheVariants.{Missing}
+use Rattle.pkg_report.specs.declared.ending.Opening.TheVariants as openings
+use Rattle.pkg_report.specs.declared.ending.Ending.{Ending}
+use Rattle.pkg_report.specs.declared.ending.Ending.TheVariants.{Ran, Hashed, CannotOpen, NoListing, BadListing}
 
 -- a script that could not be read may be one that could not be opened, or not for want of memory
 abbrev pub ending_of : Status → Opening → Ending
@@ -31,6 +33,11 @@ abbrev pub ending_of_folder : DirFault → Ending
 ending_of_folder folders.Unreadable = NoListing
 ending_of_folder (folders.BadListing line) = BadListing line
 ending_of_folder folders.NoMemory = Ran NoMemory
+
+-- a word that is no package path makes the words no command
+abbrev pub ending_of_path : PathFault → Ending
+ending_of_path paths.BadName = Ran BadWords
+ending_of_path paths.NoMemory = Ran NoMemory
 
 -- the number of the status, or 1 where the host's files could not be opened
 abbrev pub number_of_ending : Ending → ℕ

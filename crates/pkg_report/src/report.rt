@@ -4,8 +4,8 @@ ghost use Rattle.std.specs.Prelude.{◌≡◌, ◌≤◌, ℕ, List, Option, OnO
 ghost use Rattle.std.specs.Process.{exit_status};
 ghost use Rattle.pkg_names.specs.Streams.{Rose};
 ghost use Rattle.pkg_tool.specs.Written.{Wrote};
-ghost use Rattle.pkg_main.specs.Endings.{number_of_ending};
-ghost use Rattle.pkg_main.specs.Lines.{line_of};
+ghost use Rattle.pkg_report.specs.Endings.{number_of_ending};
+ghost use Rattle.pkg_report.specs.Lines.{line_of};
 
 use crate::ending::Ending;
 use crate::lines::line_text;
@@ -17,10 +17,10 @@ use std::process::ExitCode;
 
 /// The line could not be said.
 #[derive(Clone, Copy, Debug, PartialEq, Eq)]
-pub(crate) struct NotSaid;
+pub struct NotSaid;
 
 /// Where the program says what was wrong.
-pub(crate) trait Report {
+pub trait Report {
     /// What was said, where that is told.
     ghost said: { Self → Option (List ℕ) };
 
@@ -35,13 +35,13 @@ pub(crate) trait Report {
 
 /// A writer, as standard error. It tells nothing.
 #[derive(Drop)]
-pub(crate) struct WriterReport<W: Write + Drop> {
+pub struct WriterReport<W: Write + Drop> {
     writer: W,
     faults: u64,
 }
 
 impl<W: Write + Drop> WriterReport<W> {
-    pub(crate) fn attach(writer: W) -> WriterReport<W> {
+    pub fn attach(writer: W) -> WriterReport<W> {
         WriterReport { writer, faults: 0 }
     }
 }
@@ -66,21 +66,21 @@ impl<W: Write + Drop> Report for WriterReport<W> {
 
 /// Why nothing was said of an ending.
 #[derive(Clone, Copy, Debug, PartialEq, Eq)]
-pub(crate) enum Untold {
+pub enum Untold {
     Failed,
     NoMemory,
 }
 
 /// An ending that was told.
 #[derive(Debug, Drop)]
-pub(crate) struct Told {
+pub struct Told {
     /// The exit status of the process.
-    pub(crate) code: ExitCode,
-    pub(crate) line: Result<(), Untold>,
+    pub code: ExitCode,
+    pub line: Result<(), Untold>,
 }
 
 /// Says how the program ended, with the name of the script, the file or the repository, and gives the exit status.
-pub(crate) fn tell<E: Report>(
+pub fn tell<E: Report>(
     alloc: Global,
     ending: Ending,
     why: Option<ScriptRefusal>,
@@ -117,7 +117,8 @@ fn tell_line<E: Report>(
     }
 }
 
-fn say<E: Report>(errors: &mut E, line: &[u8]) -> Result<(), Untold>
+/// Says a line.
+pub(crate) fn say<E: Report>(errors: &mut E, line: &[u8]) -> Result<(), Untold>
     ensures ok { OnOk result (Wrote (E.said errors.old) line.now (E.said errors.new)) }
     ensures err { OnErr result (Rose (E.faults errors.old) (E.faults errors.new)) }
 {

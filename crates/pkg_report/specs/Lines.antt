@@ -10,8 +10,8 @@ use Rattle.script_lang.specs.declared.script.ScriptRefusal.{ScriptRefusal}
 use Rattle.script_lang.specs.declared.script.ScriptRefusal.TheVariants as refusals
 use Rattle.pkg_tool.specs.declared.running.Status.TheVariants.{Done, BadWords, BadScript, ScriptFault, SinkFault, NoMemory, FewRepos}
 use Rattle.pkg_tool.specs.declared.hashing.MerkleStatus.TheVariants as hashings
-use Rattle.pkg_main.specs.declared.ending.Ending.{Ending}
-use Rattle.pkg_main.specs.declared.ending.Ending.TheVariants.{Ran, Hashed, CannotOpen, NoListing, BadListing}
+use Rattle.pkg_report.specs.declared.ending.Ending.{Ending}
+use Rattle.pkg_report.specs.declared.ending.Ending.TheVariants.{Ran, Hashed, CannotOpen, NoListing, BadListing}
 
 abbrev pub delete : ℕ
 delete = 127
@@ -87,7 +87,8 @@ ending_text CannotOpen why name = codes "cannot open " ++ shown name
 ending_text NoListing why name = codes "cannot open " ++ shown name ++ codes "/listing"
 ending_text (BadListing number) why name = codes "cannot open " ++ shown name ++ codes "/listing" ++ listing_text number
 ending_text (Ran Done) why name = []
-ending_text (Ran BadWords) why name = codes "usage: pkg run IMAGE REPO SCRIPT, or pkg merkle FILE"
+ending_text (Ran BadWords) why name =
+    codes "usage: pkg run IMAGE REPO SCRIPT, pkg merkle FILE, or pkg publish FOLDER REPO PATH"
 ending_text (Ran (BadScript number)) why name = shown name ++ bad_script_text why number
 ending_text (Ran ScriptFault) why name = shown name ++ codes " could not be read to its end"
 ending_text (Ran SinkFault) why name = codes "the history could not be written whole"

@@ -3,7 +3,7 @@
 ghost use Rattle.std.specs.Prelude.{◌≡◌, ◌++◌, Option, OnOk, IfOk};
 ghost use Rattle.std.specs.String.{string_bytes};
 ghost use Rattle.script_lang.specs.declared.script.ScriptRefusal.{ScriptRefusal as RefusalOf};
-ghost use Rattle.pkg_main.specs.Lines.{shown_byte as byte_shown, shown, bad_script_text, ending_text, few_text, line_of, line_text_of, listing_text, root_text_at, script_text, url_text};
+ghost use Rattle.pkg_report.specs.Lines.{shown_byte as byte_shown, shown, bad_script_text, ending_text, few_text, line_of, line_text_of, listing_text, root_text_at, script_text, url_text};
 
 use crate::ending::Ending;
 use package_url::UrlFault;
@@ -67,7 +67,9 @@ fn run_text(
     match status {
         Status::Done => Ok(Vec::new(alloc)),
         Status::BadWords => {
-            b"usage: pkg run IMAGE REPO SCRIPT, or pkg merkle FILE".to_vec(alloc)
+            b"usage: pkg run IMAGE REPO SCRIPT, pkg merkle FILE, or pkg publish FOLDER REPO PATH".to_vec(
+                alloc,
+            )
         }
         Status::BadScript { line } => {
             let fault = bad_script_text(alloc, why, line)?;
@@ -103,7 +105,12 @@ fn hashing_text(alloc: Global, status: MerkleStatus, name: &str) -> Result<Vec<u
 }
 
 // A name, as it is shown, between two texts.
-fn about(alloc: Global, before: &[u8], name: &str, after: &[u8]) -> Result<Vec<u8>, AllocError>
+pub(crate) fn about(
+    alloc: Global,
+    before: &[u8],
+    name: &str,
+    after: &[u8],
+) -> Result<Vec<u8>, AllocError>
     ensures { IfOk result (λ line. line.items ≡ before.now ++ shown name.now ++ after.now) }
 {
     let mut line = before.to_vec(alloc)?;
@@ -207,7 +214,7 @@ fn root_text(alloc: Global, number: u32) -> Result<String, AllocError>
 }
 
 // What is wrong with a listing, whose bad line this is.
-fn listing_text(alloc: Global, number: u32) -> Result<String, AllocError>
+pub(crate) fn listing_text(alloc: Global, number: u32) -> Result<String, AllocError>
     ensures { IfOk result (λ text. string_bytes text ≡ listing_text number) }
 {
     if number == 0 {
@@ -218,7 +225,7 @@ fn listing_text(alloc: Global, number: u32) -> Result<String, AllocError>
 }
 
 // A name within a line.
-fn push_shown(line: &mut Vec<u8>, name: &str) -> Result<(), AllocError>
+pub(crate) fn push_shown(line: &mut Vec<u8>, name: &str) -> Result<(), AllocError>
     ensures { OnOk result (line.new.items ≡ line.old.items ++ shown name.now) }
 {
     let mut rest = name.as_bytes();

@@ -1,14 +1,24 @@
 //! How the program ends.
 
 ghost use Rattle.std.specs.Prelude.{◌≡◌};
-ghost use Rattle.pkg_main.specs.Endings.{ending_of, ending_of_folder, ending_of_hashing, number_of_ending};
+ghost use Rattle.pkg_report.specs.Endings.{ending_of, ending_of_folder, ending_of_hashing, ending_of_path, number_of_ending};
 
-use crate::late_file::Opening;
 use folder_repo::DirFault;
+use pkg_names::PathFault;
 use pkg_tool::{MerkleStatus, Status};
 
+/// What the opening of a file came to.
 #[derive(Clone, Copy, Debug, PartialEq, Eq)]
-pub(crate) enum Ending {
+pub enum Opening {
+    /// It was opened, or was not to be.
+    Fine,
+    Missing,
+    NoMemory,
+}
+
+/// How the program ends.
+#[derive(Clone, Copy, Debug, PartialEq, Eq)]
+pub enum Ending {
     /// The run ended so.
     Ran(Status),
     /// The hashing of a file ended so.
@@ -23,7 +33,7 @@ pub(crate) enum Ending {
 
 impl Ending {
     /// The ending of a run, whose script was opened so.
-    pub(crate) fn of(status: Status, opening: Opening) -> Ending
+    pub fn of(status: Status, opening: Opening) -> Ending
         ensures { result ≡ ending_of status opening }
     {
         match (status, opening) {
@@ -34,7 +44,7 @@ impl Ending {
     }
 
     /// The ending of the hashing of a file, which was opened so.
-    pub(crate) fn of_hashing(status: MerkleStatus, opening: Opening) -> Ending
+    pub fn of_hashing(status: MerkleStatus, opening: Opening) -> Ending
         ensures { result ≡ ending_of_hashing status opening }
     {
         match (status, opening) {
@@ -45,7 +55,7 @@ impl Ending {
     }
 
     /// The ending where a folder is no repository.
-    pub(crate) fn of_folder(fault: DirFault) -> Ending
+    pub fn of_folder(fault: DirFault) -> Ending
         ensures { result ≡ ending_of_folder fault }
     {
         match fault {
@@ -55,8 +65,18 @@ impl Ending {
         }
     }
 
+    /// The ending where a word is no package path.
+    pub fn of_path(fault: PathFault) -> Ending
+        ensures { result ≡ ending_of_path fault }
+    {
+        match fault {
+            PathFault::BadName => Ending::Ran(Status::BadWords),
+            PathFault::NoMemory => Ending::Ran(Status::NoMemory),
+        }
+    }
+
     /// The exit status of the program.
-    pub(crate) fn number(self) -> u8
+    pub fn number(self) -> u8
         ensures { result ≡ number_of_ending self }
     {
         match self {
