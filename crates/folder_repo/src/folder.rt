@@ -2,8 +2,8 @@
 
 ghost use Rattle.std.specs.Prelude.{◌≡◌, ◌↔◌, ◌<◌, ◌≤◌, length, true, false, is_some, None, Ok, Err, IfOk, IfErr, option_and_then};
 ghost use Rattle.std.specs.String.{string_bytes};
-ghost use Rattle.pkg_names.specs.Streams.{one_more, Rose};
-ghost use Rattle.repo_source.specs.Repo.{listed_root, opens, Fits};
+ghost use Rattle.pkg_names.specs.Streams.{one_more};
+ghost use Rattle.repo_source.specs.Repo.{Fails, Fits, fetch_failed, find_failed, listed_root, next_failed, opens};
 ghost use Rattle.folder_repo.specs.Folder.{blob_name as name_of_blob, ReadsListing, FetchesFile, Gives, IsLeft, find_reply};
 
 use crate::files::BlobFiles;
@@ -75,7 +75,7 @@ impl<F: BlobFiles + Drop> Repo for DirRepo<F> {
     ghost reading = { λ r. record { root = record { 0 = [] }; given = 0 } };
 
     fn find(&mut self, path: &PackagePath) -> FindReply
-        ensures cause { result ≡ FindReply.Failed → Rose self.old.faults self.new.faults }
+        ensures faults { Fails (find_failed result) self.old.faults self.new.faults }
 
         // The answer is exactly what the listing says that was read, and nothing changes.
         ensures exact { result ≡ find_reply (listed_root self.old.listing path.now) }
@@ -88,10 +88,9 @@ impl<F: BlobFiles + Drop> Repo for DirRepo<F> {
     }
 
     fn fetch(&mut self, alloc: Global, root: &Root) -> FetchReply
-        ensures cause { result ≡ FetchReply.Failed → Rose self.old.faults self.new.faults }
+        ensures faults { Fails (fetch_failed result) self.old.faults self.new.faults }
         ensures counted { self.new.fetches ≡ one_more self.old.fetches }
         ensures opened { is_some self.new.opened ≡ opens result }
-        ensures faults { self.old.faults ≤ self.new.faults }
 
         // A blob is found with the length of its file, and is absent only where there is no such file. What
         // the folder is made of stays.
@@ -122,9 +121,8 @@ impl<F: BlobFiles + Drop> Repo for DirRepo<F> {
         requires open { is_some self.old.opened ≡ true }
         requires room { 0 < length out.old }
         ensures fits { Fits result (length out.old) }
-        ensures cause { result ≡ NextReply.Failed → Rose self.old.faults self.new.faults }
+        ensures faults { Fails (next_failed result) self.old.faults self.new.faults }
         ensures fetches { self.new.fetches ≡ self.old.fetches }
-        ensures faults { self.old.faults ≤ self.new.faults }
         ensures is_open { is_some self.new.opened ≡ is_some self.old.opened }
 
         // The open file's bytes are given, in order.

@@ -6,12 +6,10 @@ use Rattle.pkg_names.specs.declared.root.Root.{Root}
 use Rattle.pkg_names.specs.declared.pinned.Pinned.{Pinned}
 use Rattle.repo_source.specs.declared.file.RepoFile.{RepoFile}
 use Rattle.repo_source.specs.declared.repo.FindReply.{FindReply}
-use Rattle.repo_source.specs.declared.repo.FindReply.TheVariants as finds
 use Rattle.repo_source.specs.declared.repo.FetchReply.{FetchReply}
-use Rattle.repo_source.specs.declared.repo.FetchReply.TheVariants as fetches
 use Rattle.repo_source.specs.declared.repo.NextReply.{NextReply}
 use Rattle.repo_source.specs.declared.repo.NextReply.TheVariants as nexts
-use Rattle.repo_source.specs.Repo.{Reading, file_under, opens, begun, advanced}
+use Rattle.repo_source.specs.Repo.{Reading, file_under, find_failed, fetch_failed, next_failed, opens, begun, advanced}
 
 -- listing and files; the numbers of the calls that are to fail; how many calls came so far, how many of
 -- them were fetches, and how many failed; whether a fetch is open, and what is read
@@ -42,22 +40,6 @@ new_repo listing files failing = record {
 abbrev pub counted : Bool → RepoInMemory → RepoInMemory
 counted false repo = record repo { calls = one_more repo.calls }
 counted true repo = record repo { calls = one_more repo.calls; faults = one_more repo.faults }
-
-abbrev pub find_failed : FindReply → Bool
-find_failed (finds.Found root) = false
-find_failed finds.Absent = false
-find_failed finds.Failed = true
-
-abbrev pub fetch_failed : FetchReply → Bool
-fetch_failed (fetches.Found len) = false
-fetch_failed fetches.Absent = false
-fetch_failed fetches.Failed = true
-fetch_failed fetches.NoMemory = false
-
-abbrev pub next_failed : NextReply → Bool
-next_failed (nexts.Given count) = false
-next_failed nexts.End = false
-next_failed nexts.Failed = true
 
 -- the repository after each call, by its answer
 abbrev pub after_find : FindReply → RepoInMemory → RepoInMemory

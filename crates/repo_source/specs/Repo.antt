@@ -1,6 +1,7 @@
 -- What a repository tells, and what its answers say of that.
-use Rattle.std.specs.Prelude.{◌≡◌, ℕ, ◌+◌, ◌≤◌, Bool, true, false, List, length, take, slice_range, find, Option, Some, None, IfSome, IsSomeAnd}
+use Rattle.std.specs.Prelude.{◌≡◌, ℕ, ◌+◌, ◌≤◌, Bool, true, false, List, length, take, slice_range, find, if◌then◌else◌, Option, Some, None, IfSome, IsSomeAnd}
 use Rattle.std.specs.Option.{option_map}
+use Rattle.pkg_names.specs.Streams.{RoseBy}
 use Rattle.pkg_names.specs.declared.root.Root.{Root}
 use Rattle.pkg_names.specs.Root.{root_eq}
 use Rattle.pkg_names.specs.declared.pinned.Pinned.{Pinned}
@@ -88,6 +89,31 @@ count_of nexts.Failed = 0
 -- what is read after this answer
 abbrev pub advanced : Reading → NextReply → Reading
 advanced reading reply = record reading { given = reading.given + count_of reply }
+
+-- a count of faults rose by just this much, or came to the last value of its type
+abbrev pub FailedBy : ℕ → ℕ → ℕ → Type 0
+FailedBy much before after = RoseBy much before after × (after ≤ before + much)
+
+-- a call failed, or it didn't
+abbrev pub Fails : Bool → ℕ → ℕ → Type 0
+Fails failed before after = FailedBy (if failed then 1 else 0) before after
+
+-- the answer says that the repository failed
+abbrev pub find_failed : FindReply → Bool
+find_failed (finds.Found root) = false
+find_failed finds.Absent = false
+find_failed finds.Failed = true
+
+abbrev pub fetch_failed : FetchReply → Bool
+fetch_failed (fetches.Found len) = false
+fetch_failed fetches.Absent = false
+fetch_failed fetches.Failed = true
+fetch_failed fetches.NoMemory = false
+
+abbrev pub next_failed : NextReply → Bool
+next_failed (nexts.Given count) = false
+next_failed nexts.End = false
+next_failed nexts.Failed = true
 
 -- a piece has at least one byte and fits
 abbrev pub Fits : NextReply → ℕ → Type 0

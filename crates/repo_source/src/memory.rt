@@ -2,9 +2,9 @@
 
 ghost use Rattle.std.specs.Prelude.{◌≡◌, ◌≢◌, ◌↔◌, ◌<◌, ◌≤◌, ◌+◌, ◌-◌, ◌^◌, ◌++◌, min, true, if◌then◌else◌, length, take, drop, Some, IfOk, IfSome, IsTrue, option_copied};
 ghost use Rattle.std.specs.List.{Contains};
-ghost use Rattle.pkg_names.specs.Streams.{one_more, Rose};
+ghost use Rattle.pkg_names.specs.Streams.{one_more};
 ghost use Rattle.pkg_names.specs.MemoryStreams.{IsListed};
-ghost use Rattle.repo_source.specs.Repo.{Finds, Fetches, Continues, Fits, opens, begun, advanced, count_of, listed_root, file_under};
+ghost use Rattle.repo_source.specs.Repo.{Fails, Finds, Fetches, Continues, Fits, find_failed, fetch_failed, next_failed, opens, begun, advanced, count_of, listed_root, file_under};
 ghost use Rattle.repo_source.specs.MemoryRepo.{new_repo, IsLongest, after_find, after_fetch, after_next, bytes_left};
 
 use crate::file::RepoFile;
@@ -94,8 +94,7 @@ fn count_call(failing: &[u64], calls: &mut u64, faults: &mut u64) -> bool
     ensures listed { IsTrue result ↔ IsListed failing.now calls.old }
     ensures calls { calls.new ≡ one_more calls.old }
     ensures faults { faults.new ≡ if result then one_more faults.old else faults.old }
-    ensures more { faults.old ≤ faults.new }
-    ensures rose { result ≡ true → Rose faults.old faults.new }
+    ensures failed { Fails result faults.old faults.new }
 {
     *calls = calls.saturating_add(1);
     let fails = failing.contains(calls);
@@ -195,11 +194,10 @@ impl Repo for MemRepo {
 
     fn find(&mut self, path: &PackagePath) -> FindReply
         ensures found { Finds self.old.listing path.now result }
-        ensures cause { result ≡ FindReply.Failed → Rose self.old.faults self.new.faults }
+        ensures faults { Fails (find_failed result) self.old.faults self.new.faults }
         ensures listing { self.new.listing ≡ self.old.listing }
         ensures files { self.new.files ≡ self.old.files }
         ensures fetches { self.new.fetches ≡ self.old.fetches }
-        ensures faults { self.old.faults ≤ self.new.faults }
         ensures is_open { self.new.is_open ≡ self.old.is_open }
         ensures reading { self.new.reading ≡ self.old.reading }
 
@@ -218,13 +216,12 @@ impl Repo for MemRepo {
 
     fn fetch(&mut self, alloc: Global, root: &Root) -> FetchReply
         ensures found { Fetches self.old.files root.now result }
-        ensures cause { result ≡ FetchReply.Failed → Rose self.old.faults self.new.faults }
+        ensures faults { Fails (fetch_failed result) self.old.faults self.new.faults }
         ensures counted { self.new.fetches ≡ one_more self.old.fetches }
         ensures opened { self.new.is_open ≡ opens result }
         ensures begun { self.new.reading ≡ begun self.old.reading root.now result }
         ensures listing { self.new.listing ≡ self.old.listing }
         ensures files { self.new.files ≡ self.old.files }
-        ensures faults { self.old.faults ≤ self.new.faults }
 
         // A listed call fails, and no other; none wants memory. The whole repository after the call.
         ensures listed { (result ≡ FetchReply.Failed) ↔ IsListed self.old.failing self.old.calls }
@@ -252,12 +249,11 @@ impl Repo for MemRepo {
         requires room { 0 < length out.old }
         ensures fits { Fits result (length out.old) }
         ensures given { Continues self.old.files self.old.reading out.new result }
-        ensures cause { result ≡ NextReply.Failed → Rose self.old.faults self.new.faults }
+        ensures faults { Fails (next_failed result) self.old.faults self.new.faults }
         ensures advanced { self.new.reading ≡ advanced self.old.reading result }
         ensures listing { self.new.listing ≡ self.old.listing }
         ensures files { self.new.files ≡ self.old.files }
         ensures fetches { self.new.fetches ≡ self.old.fetches }
-        ensures faults { self.old.faults ≤ self.new.faults }
         ensures is_open { self.new.is_open ≡ self.old.is_open }
 
         // A listed call fails, and no other. The whole repository after the call.

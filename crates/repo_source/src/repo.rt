@@ -1,10 +1,10 @@
 //! What a repository promises.
 
-ghost use Rattle.std.specs.Prelude.{◌≡◌, ℕ, ◌<◌, ◌≤◌, Bool, true, List, length, Option, IfSome};
-ghost use Rattle.pkg_names.specs.Streams.{one_more, Rose};
+ghost use Rattle.std.specs.Prelude.{◌≡◌, ℕ, ◌<◌, Bool, true, List, length, Option, IfSome};
+ghost use Rattle.pkg_names.specs.Streams.{one_more};
 ghost use Rattle.pkg_names.specs.declared.pinned.Pinned.{Pinned};
 ghost use Rattle.repo_source.specs.declared.file.RepoFile.{RepoFile};
-ghost use Rattle.repo_source.specs.Repo.{Reading, Finds, Fetches, Continues, Fits, opens, begun, advanced};
+ghost use Rattle.repo_source.specs.Repo.{Reading, Fails, Finds, Fetches, Continues, Fits, find_failed, fetch_failed, next_failed, opens, begun, advanced};
 
 use pkg_names::{PackagePath, Root};
 use std::alloc::Global;
@@ -48,7 +48,8 @@ pub trait Repo {
     /// How often it was asked to fetch. It stands still at the end of its type.
     ghost fetches: { Self → ℕ };
 
-    /// How often it has failed. It never falls, and stands still at the end of its type.
+    /// How often it has failed: each answer that says so counts once, and nothing else does. It stands still at
+    /// the end of its type.
     ghost faults: { Self → ℕ };
 
     /// Whether a fetch is open.
@@ -60,19 +61,18 @@ pub trait Repo {
     /// The root of a path.
     fn find(&mut self, path: &PackagePath) -> FindReply
         ensures found { IfSome (listing self.old) (λ all. Finds all path.now result) }
-        ensures cause { result ≡ FindReply.Failed → Rose (faults self.old) (faults self.new) }
+        ensures faults { Fails (find_failed result) (faults self.old) (faults self.new) }
 
         ensures listing { listing self.new ≡ listing self.old }
         ensures files { files self.new ≡ files self.old }
         ensures fetches { fetches self.new ≡ fetches self.old }
-        ensures faults { faults self.old ≤ faults self.new }
         ensures is_open { is_open self.new ≡ is_open self.old }
         ensures reading { IfSome (files self.old) (λ _. reading self.new ≡ reading self.old) };
 
     /// Opens a fetch of the file under a root.
     fn fetch(&mut self, alloc: Global, root: &Root) -> FetchReply
         ensures found { IfSome (files self.old) (λ all. Fetches all root.now result) }
-        ensures cause { result ≡ FetchReply.Failed → Rose (faults self.old) (faults self.new) }
+        ensures faults { Fails (fetch_failed result) (faults self.old) (faults self.new) }
 
         ensures counted { fetches self.new ≡ one_more (fetches self.old) }
         ensures opened { is_open self.new ≡ opens result }
@@ -80,8 +80,7 @@ pub trait Repo {
             (λ _. reading self.new ≡ begun (reading self.old) root.now result) }
 
         ensures listing { listing self.new ≡ listing self.old }
-        ensures files { files self.new ≡ files self.old }
-        ensures faults { faults self.old ≤ faults self.new };
+        ensures files { files self.new ≡ files self.old };
 
     /// Puts the next bytes of the open fetch at the front of `out`.
     fn next(&mut self, out: &mut [u8]) -> NextReply
@@ -89,7 +88,7 @@ pub trait Repo {
         requires room { 0 < length out.old }
         ensures fits { Fits result (length out.old) }
         ensures given { IfSome (files self.old) (λ all. Continues all (reading self.old) out.new result) }
-        ensures cause { result ≡ NextReply.Failed → Rose (faults self.old) (faults self.new) }
+        ensures faults { Fails (next_failed result) (faults self.old) (faults self.new) }
 
         ensures advanced { IfSome (files self.old)
             (λ _. reading self.new ≡ advanced (reading self.old) result) }
@@ -97,6 +96,5 @@ pub trait Repo {
         ensures listing { listing self.new ≡ listing self.old }
         ensures files { files self.new ≡ files self.old }
         ensures fetches { fetches self.new ≡ fetches self.old }
-        ensures faults { faults self.old ≤ faults self.new }
         ensures is_open { is_open self.new ≡ is_open self.old };
 }

@@ -23,7 +23,7 @@ use Rattle.resolver.specs.declared.reply.Stop.TheVariants as stops
 use Rattle.resolver.specs.Serving.{Point, ticket_for, after_want}
 use Rattle.resolver.specs.Serving.Point.{Waiting, Granted, Giving, Refused}
 use Rattle.resolver.specs.Steps.{Goes, Fetches, reply_of, after_arrival, held_after_arrival}
-use Rattle.resolver.proofs.Goes.{goes_then, goes_rests, rose_same}
+use Rattle.resolver.proofs.Goes.{goes_then, goes_rests, failed_same}
 use Rattle.resolver.proofs.Desks.{granted_by, want_goes, give_up_goes, cut_goes}
 use Rattle.resolver.proofs.Handles.{claim_back}
 
@@ -96,7 +96,7 @@ module _ (path : NameAndVariant) (ticket : Ticket) (old mid : View) (listing : O
         granted = 0;
         goes = goes_then 0 0 (Waiting t) (Waiting t) (Waiting t) old mid new listing files faults faults faults
             (want_goes listing files faults path ticket (want.NotYet back bell) old mid is fillers)
-            (goes_rests (Waiting t) mid new listing files faults faults rests fillers_then (rose_same faults));
+            (goes_rests (Waiting t) mid new listing files faults faults rests fillers_then (failed_same faults));
         fetches = refl;
       }
 

@@ -5,12 +5,11 @@ use Rattle.fetch_queue.specs.declared.FetchEnd.TheVariants as ends
 use Rattle.package_indexes.specs.declared.Choice.{Choice}
 use Rattle.package_indexes.specs.declared.Choice.TheVariants as choices
 use Rattle.pkg_names.specs.NameAndVariant.{NameAndVariant}
-use Rattle.pkg_names.specs.Streams.{RoseBy}
 use Rattle.pkg_names.specs.declared.pinned.Pinned.{Pinned}
 use Rattle.pkg_names.specs.declared.root.Root.{Root}
 use Rattle.pkg_merkle.specs.Merkle.{merkle_root}
 use Rattle.repo_source.specs.declared.file.RepoFile.{RepoFile}
-use Rattle.repo_source.specs.Repo.{file_under}
+use Rattle.repo_source.specs.Repo.{FailedBy, file_under}
 use Rattle.store_model.specs.declared.ends.Miss.{Miss}
 use Rattle.store_model.specs.declared.ends.Miss.TheVariants as misses
 use Rattle.store_model.specs.declared.ends.BeginEnd.{BeginEnd}
@@ -44,13 +43,19 @@ use Rattle.resolver.specs.Serving.Point.{Asking, Waiting, Granted, Roomy, Giving
 use Rattle.resolver.specs.Counting.{is_failure}
 use Rattle.resolver.specs.Fetched.{IsListed, HasFile, IsBlob, IsOther, TellsInAct}
 use Rattle.resolver.specs.Steps.{Goes, IsFilled, failures_of}
-use Rattle.resolver.proofs.Goes.{Fits, as_numbered, fits_act, fits_break, goes_does, goes_rests, rose_less, rose_same}
+use Rattle.resolver.proofs.Goes.{Fits, as_numbered, fits_act, fits_break, goes_does, goes_rests, failed_same}
 
 -- ---- a package is asked for
 
+-- the count of faults that the event tells of
+abbrev pub told_at : BeginReply → ℕ → ℕ → ℕ
+told_at (begin.Broken number) before after = before
+told_at begin.NoMemory before after = before
+told_at reply before after = after
+
 module _ (path : NameAndVariant) (pin : Option Root) (choice : Choice) (listing : Option (List Pinned)) (files : Option (List RepoFile)) (before after : ℕ) where
-  failed_once : (reply : BeginEnd) (seen : List LookedAt) → RoseBy (failures_of choice) before after → RoseBy (0 + cond (is_failure (acts.Begin path choice reply seen)) 1 0) before after
-  failed_once reply seen rose = elim choice as (λ (c : Choice). RoseBy (failures_of c) before after → RoseBy (0 + cond (is_failure (acts.Begin path c reply seen)) 1 0) before after) [
+  failed_once : (reply : BeginEnd) (seen : List LookedAt) → FailedBy (failures_of choice) before after → FailedBy (0 + cond (is_failure (acts.Begin path choice reply seen)) 1 0) before after
+  failed_once reply seen rose = elim choice as (λ (c : Choice). FailedBy (failures_of c) before after → FailedBy (0 + cond (is_failure (acts.Begin path c reply seen)) 1 0) before after) [
     | choices.Pinned root ↦ λ h. h
     | choices.Listed root ↦ λ h. h
     | choices.Absent ↦ λ h. h
@@ -59,7 +64,7 @@ module _ (path : NameAndVariant) (pin : Option Root) (choice : Choice) (listing 
 
   -- it was answered
   begun : (reply : BeginReply) (end : BeginEnd) (old new : View) → (does : Does old new (IsBegun path choice reply)) → (seen : List LookedAt) → Acts (acts.Begin path choice end seen) does.event
-      → new.fillers ≡ old.fillers → IsChoiceFor pin choice → ((all : List Pinned) → listing ≡ Some all → IsListed all path choice) → RoseBy (failures_of choice) before after
+      → new.fillers ≡ old.fillers → IsChoiceFor pin choice → ((all : List Pinned) → listing ≡ Some all → IsListed all path choice) → FailedBy (failures_of choice) before after
       → Goes 0 (Asking path pin) (after_begin path pin reply) old new listing files before after
   begun reply end old new does seen is fillers chosen lists rose =
       goes_does 0 (0 + cond (is_failure (acts.Begin path choice end seen)) 1 0) (Asking path pin) (after_begin path pin reply) old new (IsBegun path choice reply) listing files before after does fillers
@@ -68,8 +73,8 @@ module _ (path : NameAndVariant) (pin : Option Root) (choice : Choice) (listing 
       (failed_once end seen rose)
 
   pub begin_goes : (reply : BeginReply) (old new : View) → desk.Begins path choice reply old new → new.fillers ≡ old.fillers → IsChoiceFor pin choice
-      → ((all : List Pinned) → listing ≡ Some all → IsListed all path choice) → RoseBy (failures_of choice) before after
-      → Goes 0 (Asking path pin) (after_begin path pin reply) old new listing files before after
+      → ((all : List Pinned) → listing ≡ Some all → IsListed all path choice) → FailedBy (failures_of choice) before after
+      → Goes 0 (Asking path pin) (after_begin path pin reply) old new listing files before (told_at reply before after)
   begin_goes (begin.Made ticket) old new does = begun (begin.Made ticket) (begins.Ticket ticket.root) old new does does.its.1.0 does.its.1.1
   begin_goes begin.InRecovery old new does = begun begin.InRecovery begins.InRecovery old new does does.its.0 does.its.1
   begin_goes begin.NotFound old new does = begun begin.NotFound begins.NotFound old new does does.its.0 does.its.1
@@ -77,12 +82,12 @@ module _ (path : NameAndVariant) (pin : Option Root) (choice : Choice) (listing 
   begin_goes begin.DiskRead old new does = begun begin.DiskRead begins.DiskRead old new does does.its.0 does.its.1
   begin_goes (begin.Rotten root got) old new does = begun (begin.Rotten root got) (begins.Rotten root got) old new does does.its.0 does.its.1
   begin_goes (begin.Broken number) old new does = λ fillers chosen lists rose.
-      goes_does 0 0 (Asking path pin) (Refused (replies.Broken number)) old new (IsBegun path choice (begin.Broken number)) listing files before after does fillers
+      goes_does 0 0 (Asking path pin) (Refused (replies.Broken number)) old new (IsBegun path choice (begin.Broken number)) listing files before before does fillers
       (record { choice = choice; chosen = chosen; reply = begin.Broken number; event = does.its; leads = refl })
       (fits_act listing files (length (old.seen ++ does.others) + 1) does.event (acts.Refused (calls.Begin path) number) does.its (λ all told. tt) (λ all told. tt))
-      (rose_less (failures_of choice) before after rose)
+      (failed_same before)
   begin_goes begin.NoMemory old new rests = λ fillers chosen lists rose.
-      goes_rests (Asking path pin) old new listing files before after rests fillers (rose_less (failures_of choice) before after rose)
+      goes_rests (Asking path pin) old new listing files before before rests fillers (failed_same before)
 
 -- ---- what is missing is asked for
 
@@ -92,8 +97,8 @@ granted_by (want.Fetch back claim) = 1
 granted_by reply = 0
 
 module _ (listing : Option (List Pinned)) (files : Option (List RepoFile)) (faults : ℕ) where
-  same : RoseBy 0 faults faults
-  same = rose_same faults
+  same : FailedBy 0 faults faults
+  same = failed_same faults
 
   pub want_goes : (path : NameAndVariant) (ticket : Ticket) (reply : WantReply) (old new : View) → desk.Wants ticket reply old new → new.fillers ≡ old.fillers
       → Goes (granted_by reply) (Waiting (ticket_for path ticket)) (after_want (ticket_for path ticket) reply) old new listing files faults faults
@@ -254,25 +259,25 @@ failures_at why = 0
 
 module _ (listing : Option (List Pinned)) (files : Option (List RepoFile)) (before after : ℕ) where
   missed : (from : Point) (ticket : HeldTicket) (root : Root) (why : Miss) (old new : View) → ((number : ℕ) (e : Event) → Misses ticket root number e (after_miss ticket why) → Follows from number e (after_miss ticket why))
-      → Does old new (IsMissed root why) → new.fillers ≡ old.fillers → RoseBy (failures_at why) before after
+      → Does old new (IsMissed root why) → new.fillers ≡ old.fillers → FailedBy (failures_at why) before after
       → ((all : List RepoFile) → files ≡ Some all → TellsInAct all (acts.Missed root why))
       → Goes 0 from (after_miss ticket why) old new listing files before after
   missed from ticket root why old new follows does fillers rose tells =
       goes_does 0 (0 + cond (is_failure (acts.Missed root why)) 1 0) from (after_miss ticket why) old new (IsMissed root why) listing files before after does fillers
       (follows (length (old.seen ++ does.others) + 1) does.event (record { why = why; event = does.its; leads = refl }))
       (fits_act listing files (length (old.seen ++ does.others) + 1) does.event (acts.Missed root why) does.its (λ all told. tt) tells)
-      (elim why as (λ (w : Miss). RoseBy (failures_at w) before after → RoseBy (0 + cond (is_failure (acts.Missed root w)) 1 0) before after) [
+      (elim why as (λ (w : Miss). FailedBy (failures_at w) before after → FailedBy (0 + cond (is_failure (acts.Missed root w)) 1 0) before after) [
         | misses.Absent ↦ λ h. h
         | misses.Read ↦ λ h. h
         | misses.Memory ↦ λ h. h
       ] rose)
 
-  pub granted_misses : (ticket : HeldTicket) (root : Root) (why : Miss) (old new : View) → Does old new (IsMissed root why) → new.fillers ≡ old.fillers → RoseBy (failures_at why) before after
+  pub granted_misses : (ticket : HeldTicket) (root : Root) (why : Miss) (old new : View) → Does old new (IsMissed root why) → new.fillers ≡ old.fillers → FailedBy (failures_at why) before after
       → ((all : List RepoFile) → files ≡ Some all → TellsInAct all (acts.Missed root why))
       → Goes 0 (Granted ticket root) (after_miss ticket why) old new listing files before after
   granted_misses ticket root why old new does fillers rose tells = missed (Granted ticket root) ticket root why old new (λ number e h. inr h) does fillers rose tells
 
-  pub roomy_misses : (ticket : HeldTicket) (root : Root) (len : ℕ) (why : Miss) (old new : View) → Does old new (IsMissed root why) → new.fillers ≡ old.fillers → RoseBy (failures_at why) before after
+  pub roomy_misses : (ticket : HeldTicket) (root : Root) (len : ℕ) (why : Miss) (old new : View) → Does old new (IsMissed root why) → new.fillers ≡ old.fillers → FailedBy (failures_at why) before after
       → ((all : List RepoFile) → files ≡ Some all → TellsInAct all (acts.Missed root why))
       → Goes 0 (Roomy ticket root len) (after_miss ticket why) old new listing files before after
   roomy_misses ticket root len why old new does fillers rose tells = missed (Roomy ticket root len) ticket root why old new (λ number e h. inr (inr h)) does fillers rose tells

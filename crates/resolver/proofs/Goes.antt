@@ -4,6 +4,7 @@ use Rattle.std.proofs.lemmas.List.{append-nil}
 use Rattle.std.proofs.lemmas.List.Elements.{All-nil, All-cons, All-append}
 use Rattle.std.proofs.lemmas.List.Sums.{sum_by-append}
 use Rattle.pkg_names.specs.Streams.{one_more, RoseBy}
+use Rattle.repo_source.specs.Repo.{FailedBy}
 use Rattle.pkg_names.specs.declared.pinned.Pinned.{Pinned}
 use Rattle.repo_source.specs.declared.file.RepoFile.{RepoFile}
 use Rattle.store_model.specs.declared.events.Event.{Event}
@@ -21,14 +22,16 @@ use Rattle.resolver.specs.Steps.{Goes, Fetches}
 pub rose_then : (m n x y z : ℕ) → RoseBy m x y → RoseBy n y z → RoseBy (m + n) x z
 rose_then m n x y z h k = omega arith
 
-pub rose_less : (n x y : ℕ) → RoseBy n x y → RoseBy 0 x y
-rose_less n x y h = omega arith
-
-pub rose_none : (x y : ℕ) → x ≤ y → RoseBy 0 x y
-rose_none x y h = omega arith
-
 pub rose_same : (x : ℕ) → RoseBy 0 x x
 rose_same x = omega arith
+
+pub failed_then : (m n x y z : ℕ) → FailedBy m x y → FailedBy n y z → FailedBy (m + n) x z
+failed_then m n x y z h k = (rose_then m n x y z h.0 k.0, sum h.1 k.1) where
+  sum : y ≤ x + m → z ≤ y + n → z ≤ x + (m + n)
+  sum a b = omega arith
+
+pub failed_same : (x : ℕ) → FailedBy 0 x x
+failed_same x = (rose_same x, omega arith)
 
 counted_then : (m n x : ℕ) → counted n (counted m x) ≡ counted (m + n) x
 counted_then m zero x = ap (λ (i : ℕ). counted i x) (sym (add-zero m))
@@ -76,7 +79,7 @@ stays_then v w u h k = record {
 -- the call made one event
 pub goes_does : (granted failed : ℕ) (from to : Point) (old new : View) (IsIts : ℕ → Event → Type 0) (listing : Option (List Pinned)) (files : Option (List RepoFile)) (before after : ℕ)
     → (does : Does old new IsIts) → new.fillers ≡ old.fillers → Follows from (length (old.seen ++ does.others) + 1) does.event to
-    → Fits granted failed listing files (as_numbered (length (old.seen ++ does.others) + 1) does.event) → RoseBy failed before after
+    → Fits granted failed listing files (as_numbered (length (old.seen ++ does.others) + 1) does.event) → FailedBy failed before after
     → Goes granted from to old new listing files before after
 goes_does granted failed from to old new IsIts listing files before after does fillers follows fits rose =
     let e : Numbered = as_numbered (length (old.seen ++ does.others) + 1) does.event in record {
@@ -91,12 +94,12 @@ goes_does granted failed from to old new IsIts listing files before after does f
       grants = fits.grants;
       lists = λ all told. All-cons (Lists all) e [] (fits.lists all told) (All-nil (Lists all));
       tells = λ all told. All-cons (Tells all) e [] (fits.tells all told) (All-nil (Tells all));
-      faults = subst (λ (n : ℕ). RoseBy n before after) (sym fits.failures) rose;
+      faults = subst (λ (n : ℕ). FailedBy n before after) (sym fits.failures) rose;
     }
 
 -- the call made none
 pub goes_rests : (from : Point) (old new : View) (listing : Option (List Pinned)) (files : Option (List RepoFile)) (before after : ℕ)
-    → Rests old new → new.fillers ≡ old.fillers → RoseBy 0 before after → Goes 0 from from old new listing files before after
+    → Rests old new → new.fillers ≡ old.fillers → FailedBy 0 before after → Goes 0 from from old new listing files before after
 goes_rests from old new listing files before after rests fillers rose = record {
   stays = rests.stays;
   fillers = fillers;
@@ -114,7 +117,7 @@ goes_rests from old new listing files before after rests fillers rose = record {
 
 -- no call was made
 pub goes_none : (from : Point) (v : View) (listing : Option (List Pinned)) (files : Option (List RepoFile)) (before after : ℕ)
-    → RoseBy 0 before after → Goes 0 from from v v listing files before after
+    → FailedBy 0 before after → Goes 0 from from v v listing files before after
 goes_none from v listing files before after rose = record {
   stays = record { lane = refl; tie = refl; origin = refl };
   fillers = refl;
@@ -156,28 +159,16 @@ goes_then m n a b c v w u listing files x y z h k = record {
   grants = grants_then h.run k.run ∙ ap (λ (i : ℕ). i + grants k.run) h.grants ∙ ap (λ (i : ℕ). m + i) k.grants;
   lists = λ all told. All-append (Lists all) h.run k.run (h.lists all told) (k.lists all told);
   tells = λ all told. All-append (Tells all) h.run k.run (h.tells all told) (k.tells all told);
-  faults = subst (λ (i : ℕ). RoseBy i x z) (sym (failures_then h.run k.run)) (rose_then (failures h.run) (failures k.run) x y z h.faults k.faults);
+  faults = subst (λ (i : ℕ). FailedBy i x z) (sym (failures_then h.run k.run)) (failed_then (failures h.run) (failures k.run) x y z h.faults k.faults);
 }
 
--- the same from a lower count
-pub goes_from : (n : ℕ) (a b : Point) (v w : View) (listing : Option (List Pinned)) (files : Option (List RepoFile)) (x y z : ℕ) → x ≤ y
+-- the same where the count rose by nothing before
+pub goes_from : (n : ℕ) (a b : Point) (v w : View) (listing : Option (List Pinned)) (files : Option (List RepoFile)) (x y z : ℕ) → FailedBy 0 x y
     → Goes n a b v w listing files y z → Goes n a b v w listing files x z
-goes_from n a b v w listing files x y z le h = record {
-  stays = h.stays;
-  fillers = h.fillers;
-  agrees = h.agrees;
-  more = h.more;
-  seen = h.seen;
-  run = h.run;
-  mine = h.mine;
-  leads = h.leads;
-  grants = h.grants;
-  lists = h.lists;
-  tells = h.tells;
-  faults = lower (failures h.run) h.faults;
-} where
-  lower : (m : ℕ) → RoseBy m y z → RoseBy m x z
-  lower m rose = omega arith
+goes_from n a b v w listing files x y z none h =
+    subst (λ (k : ℕ). Goes k a b v w listing files x z) zero_more (goes_then 0 n a a b v v w listing files x y z (goes_none a v listing files x y none) h) where
+      zero_more : 0 + n ≡ n
+      zero_more = omega arith
 
 -- the same where the second step has what the repository tells after the first
 pub goes_on : (m n : ℕ) (a b c : Point) (v w u : View) (listing listing_then : Option (List Pinned)) (files files_then : Option (List RepoFile)) (x y z : ℕ)

@@ -3,11 +3,10 @@ use Rattle.std.specs.Prelude.{◌≡◌, ℕ, ◌+◌, ◌<◌, List, ◌++◌, 
 use Rattle.package_indexes.specs.declared.Choice.{Choice}
 use Rattle.package_indexes.specs.declared.Choice.TheVariants as choices
 use Rattle.pkg_names.specs.NameAndVariant.{NameAndVariant}
-use Rattle.pkg_names.specs.Streams.{RoseBy}
 use Rattle.pkg_names.specs.declared.pinned.Pinned.{Pinned}
 use Rattle.pkg_names.specs.declared.root.Root.{Root}
 use Rattle.repo_source.specs.declared.file.RepoFile.{RepoFile}
-use Rattle.repo_source.specs.Repo.{Reading, file_under}
+use Rattle.repo_source.specs.Repo.{FailedBy, Reading, file_under}
 use Rattle.store_model.specs.declared.events.Event.{Event}
 use Rattle.store_model.specs.declared.replies.Ticket.{Ticket}
 use Rattle.store_model.specs.History.{Numbered}
@@ -94,7 +93,7 @@ pub record Goes (granted : ℕ) (from to : Point) (old new : View) (listing : Op
   pub grants : grants run ≡ granted
   pub lists : (all : List Pinned) → listing ≡ Some all → All (Lists all) run
   pub tells : (all : List RepoFile) → files ≡ Some all → All (Tells all) run
-  pub faults : RoseBy (failures run) before after
+  pub faults : FailedBy (failures run) before after
 
 -- ---- the bytes on their way
 
@@ -141,3 +140,11 @@ pub record Fetches (from to : Point) (old new : View) (listing : Option (List Pi
 abbrev pub failures_of : Choice → ℕ
 failures_of choices.Failed = 1
 failures_of choice = 0
+
+-- The count of faults that the events of asking for a package tell of: where the store took no package, no event has
+-- the choice, and so the faults of making it are left out.
+abbrev pub told_by : {A : Type 0} → Result A ResolveReply → ℕ → ℕ → ℕ
+told_by (Ok ticket) before after = after
+told_by (Err replies.NoMemory) before after = before
+told_by (Err (replies.Broken number)) before after = before
+told_by (Err reply) before after = after

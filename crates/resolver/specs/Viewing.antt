@@ -1,5 +1,5 @@
 -- What a resolve leaves of what is seen of its desk.
-use Rattle.std.specs.Prelude.{◌≡◌, ℕ, ◌∷◌, [], ◌++◌, List, Option, Some, All}
+use Rattle.std.specs.Prelude.{◌≡◌, ◌≤◌, ℕ, ◌+◌, ⊤, ◌∷◌, [], ◌++◌, List, Option, Some, All}
 use Rattle.pkg_names.specs.NameAndVariant.{NameAndVariant}
 use Rattle.pkg_names.specs.Streams.{RoseBy}
 use Rattle.pkg_names.specs.declared.pinned.Pinned.{Pinned}
@@ -27,9 +27,16 @@ IsHeldAfter lane (replies.Resolved dir) old new =
     × (new ≡ record old { dirs = old.dirs ++ record { number = dir.number; lane = lane; root = root } ∷ [] })
 IsHeldAfter lane reply old new = new ≡ old
 
+-- The events tell of each fault: all do but those of a run that ends, before anything was granted, for want of memory
+-- or since the store is broken. Then the store may not have taken the package that it was asked for.
+abbrev pub TellsFaults : ResolveReply → List Numbered → Type 0
+TellsFaults replies.NoMemory run = 1 ≤ grants run
+TellsFaults (replies.Broken number) run = 1 ≤ grants run
+TellsFaults reply run = ⊤
+
 -- What the lane did is one run that resolves the package, and the reply is the run's. What it had seen is the front
 -- of what it has seen. The repository was asked once for each grant of the run, it failed as often as the run says,
--- and the run fits what it tells.
+-- and no oftener where the run tells of each fault, and the run fits what the repository tells.
 pub record Resolves (path : NameAndVariant) (pin : Option Root) (reply : ResolveReply) (old new : View)
     (listing : Option (List Pinned)) (files : Option (List RepoFile)) (faults faults_now fetches fetches_now : ℕ)
     : Type 0 where
@@ -44,5 +51,6 @@ pub record Resolves (path : NameAndVariant) (pin : Option Root) (reply : Resolve
   pub fillers : new.fillers ≡ old.fillers
   pub asked : fetches_now ≡ counted (grants run) fetches
   pub failed : RoseBy (failures run) faults faults_now
+  pub spared : TellsFaults reply run → faults_now ≤ faults + failures run
   pub lists : (all : List Pinned) → listing ≡ Some all → All (Lists all) run
   pub tells : (all : List RepoFile) → files ≡ Some all → All (Tells all) run

@@ -1,10 +1,10 @@
 //! A whole resolve.
 
 ghost use Rattle.std.specs.Prelude.{◌≡◌, ◌<◌, ◌≤◌, ◌↔◌, ℕ, List, length, Option, Some, None, IfSome, IfOk, IfErr};
-ghost use Rattle.pkg_names.specs.Streams.{RoseBy};
 ghost use Rattle.pkg_names.specs.declared.pinned.Pinned.{Pinned};
 ghost use Rattle.pkg_names.specs.declared.root.Root.{Root};
 ghost use Rattle.repo_source.specs.declared.file.RepoFile.{RepoFile};
+ghost use Rattle.repo_source.specs.Repo.{FailedBy};
 ghost use Rattle.store_model.specs.declared.ends.TheConstants.{PIECE_LIMIT};
 ghost use Rattle.store_model.specs.declared.replies.BeginReply.TheVariants as begin;
 ghost use Rattle.store_model.specs.Desk.{held_by, KeepsImages};
@@ -13,7 +13,7 @@ ghost use Rattle.resolver.specs.Serving.{IsChoiceFor};
 ghost use Rattle.resolver.specs.Serving.Point.{Asking};
 ghost use Rattle.resolver.specs.Fetched.{IsListed};
 ghost use Rattle.resolver.specs.Viewing.{IsHeldAfter, Resolves};
-ghost use Rattle.resolver.specs.Steps.{Goes, after_asking, failures_of};
+ghost use Rattle.resolver.specs.Steps.{Goes, after_asking, failures_of, told_by};
 
 use crate::reply::ResolveReply;
 use crate::rounds::arrive;
@@ -83,7 +83,7 @@ fn resolve_by<W: Wait, K: Desk, R: Repo>(
 fn choose<R: Repo>(repo: &mut R, url: &Url) -> Choice
     ensures chosen { IsChoiceFor url.now.pin result }
     ensures listed { IfSome (R.listing repo.old) (λ all. IsListed all url.now.path result) }
-    ensures faults { RoseBy (failures_of result) (R.faults repo.old) (R.faults repo.new) }
+    ensures faults { FailedBy (failures_of result) (R.faults repo.old) (R.faults repo.new) }
     ensures fetches { R.fetches repo.new ≡ R.fetches repo.old }
     ensures listing { R.listing repo.new ≡ R.listing repo.old }
     ensures files { R.files repo.new ≡ R.files repo.old }
@@ -103,9 +103,9 @@ fn ask<K: Desk>(desk: &mut K, path: &PackagePath, choice: Choice) -> Result<Tick
     ensures goes { (pin : Option Root) (listing : Option (List Pinned)) (files : Option (List RepoFile))
         (before after : ℕ) → IsChoiceFor pin choice
         → ((all : List Pinned) → listing ≡ Some all → IsListed all path.now choice)
-        → RoseBy (failures_of choice) before after
+        → FailedBy (failures_of choice) before after
         → Goes 0 (Asking path.now pin) (after_asking path.now pin result) (K.view desk.old) (K.view desk.new)
-        listing files before after }
+        listing files before (told_by result before after) }
     ensures made { IfOk result (λ ticket.
         Begins path.now choice (begin.Made ticket) (K.view desk.old) (K.view desk.new)) }
     ensures held { IfErr result (λ reply.

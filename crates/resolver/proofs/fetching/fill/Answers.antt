@@ -10,7 +10,7 @@ use Rattle.store_model.proofs.CallsHeld.{roomed, missed}
 use Rattle.resolver.specs.declared.reply.ResolveReply.TheVariants as replies
 use Rattle.resolver.specs.Serving.Point.{Granted, Roomy, Giving}
 use Rattle.resolver.specs.Steps.{Goes, Fills, after_fetch}
-use Rattle.resolver.proofs.Goes.{goes_then, rose_same}
+use Rattle.resolver.proofs.Goes.{goes_then, failed_same}
 use Rattle.resolver.proofs.Desks.{room_goes, granted_misses}
 use Rattle.resolver.proofs.Filling.{has_declared, fills_first}
 use Rattle.resolver.proofs.Handles.{claim_held, claim_stays, room_made}
@@ -51,7 +51,7 @@ returns-in-NoMemory-clause-goes g c = λ t.
     let missing : Does mid new (IsMissed root misses.Memory) = subst (λ (k : Claim). Does mid new (IsMissed k.root misses.Memory)) c.in-NoMemory.ensures.event.1 c.miss.ensures.event in
     goes_then 0 0 (Granted t root) (Granted t root) (Giving t replies.NoMemory) old mid new listing files faults faults faults
     (room_goes listing files faults t c.args.claim c.args.len (room.NoMemory c.in-NoMemory.claim) old mid c.in-NoMemory.ensures.event c.in-NoMemory.ensures.fillers (has_declared files root c.args.len c.requires.found))
-    (granted_misses listing files faults faults t root misses.Memory mid new missing c.miss.ensures.fillers (rose_same faults) (λ all told. tt))
+    (granted_misses listing files faults faults t root misses.Memory mid new missing c.miss.ensures.fillers (failed_same faults) (λ all told. tt))
 
 pub returns-in-NoMemory-clause-held : goal.returns-in-NoMemory-clause-held
 returns-in-NoMemory-clause-held g c =

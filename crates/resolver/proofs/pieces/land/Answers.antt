@@ -9,7 +9,7 @@ use Rattle.store_model.specs.Calls.{room_by}
 use Rattle.store_model.proofs.CallsHeld.{landed, missed}
 use Rattle.resolver.specs.declared.reply.ResolveReply.TheVariants as replies
 use Rattle.resolver.specs.Serving.Point.{Roomy, Giving}
-use Rattle.resolver.proofs.Goes.{goes_then, rose_same}
+use Rattle.resolver.proofs.Goes.{goes_then, failed_same}
 use Rattle.resolver.proofs.Desks.{land_goes, roomy_misses}
 use Rattle.resolver.proofs.Handles.{claim_stays, room_held}
 use Rattle.resolver.proofs.pieces.land.Goals as goal
@@ -55,7 +55,7 @@ returns-in-NoMemory-clause-goes g c = λ t listing files faults filled.
     goes_then 0 0 (Roomy t root (room_by old)) (Roomy t root (room_by old)) (Giving t replies.NoMemory) old mid new listing files faults faults faults
     (land_goes listing files faults t c.args.claim (land.NoMemory c.in-NoMemory.claim) (g.K.Desk.kept c.args.desk.now) (g.K.Desk.kept c.land.new.self) old mid
     c.in-NoMemory.ensures.event c.in-NoMemory.ensures.kept c.in-NoMemory.ensures.fillers filled)
-    (roomy_misses listing files faults faults t root (room_by old) misses.Memory mid new missing c.miss.ensures.fillers (rose_same faults) (λ all told. tt))
+    (roomy_misses listing files faults faults t root (room_by old) misses.Memory mid new missing c.miss.ensures.fillers (failed_same faults) (λ all told. tt))
 
 pub returns-in-NoMemory-clause-held : goal.returns-in-NoMemory-clause-held
 returns-in-NoMemory-clause-held g c =

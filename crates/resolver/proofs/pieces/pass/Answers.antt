@@ -92,7 +92,7 @@ returns-in-End-clause-goes g c = λ t.
 pub returns-in-Failed-clause-goes : goal.returns-in-Failed-clause-goes
 returns-in-Failed-clause-goes g c = λ t.
     roomy_misses (g.R.Repo.listing c.args.repo.now) (g.R.Repo.files c.args.repo.now) _ _ t c.args.claim.root c.args.len misses.Read _ _ c.miss.ensures.event c.miss.ensures.fillers
-    (c.in-Failed.ensures.cause refl) (λ all told. tt)
+    c.in-Failed.ensures.faults (λ all told. tt)
 
 pub returns-in-Failed-clause-held : goal.returns-in-Failed-clause-held
 returns-in-Failed-clause-held g c = missed c.args.claim.root misses.Read _ _ c.miss.ensures.event

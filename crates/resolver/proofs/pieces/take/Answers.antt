@@ -6,7 +6,7 @@ use Rattle.store_model.specs.HeldAfter.{without_claim}
 use Rattle.store_model.specs.Desk.{Kept}
 use Rattle.resolver.specs.Serving.Point.{Roomy}
 use Rattle.resolver.specs.Steps.{Goes, Fills, after_fetch}
-use Rattle.resolver.proofs.Goes.{goes_none, goes_on, rose_same}
+use Rattle.resolver.proofs.Goes.{goes_none, goes_on, failed_same}
 use Rattle.resolver.proofs.Handles.{images_then, iff_then, claim_with}
 use Rattle.resolver.proofs.pieces.take.Goals as goal
 
@@ -27,7 +27,7 @@ pub loop-back-init : goal.loop-back-init
 loop-back-init g c = record {
   root = refl;
   fills = c.requires.fills;
-  goes = λ t. goes_none (Roomy t c.args.claim.root c.args.len) (g.K.Desk.view c.args.desk.now) (g.R.Repo.listing c.args.repo.now) (g.R.Repo.files c.args.repo.now) (g.R.Repo.faults c.args.repo.now) (g.R.Repo.faults c.args.repo.now) (rose_same (g.R.Repo.faults c.args.repo.now));
+  goes = λ t. goes_none (Roomy t c.args.claim.root c.args.len) (g.K.Desk.view c.args.desk.now) (g.R.Repo.listing c.args.repo.now) (g.R.Repo.files c.args.repo.now) (g.R.Repo.faults c.args.repo.now) (g.R.Repo.faults c.args.repo.now) (failed_same (g.R.Repo.faults c.args.repo.now));
   held = refl;
   images = λ image bytes is. is;
   firm = (λ is. is, λ is. is);

@@ -1,8 +1,8 @@
 use Rattle.std.proofs.Common.{refl}
 use Rattle.resolver.specs.declared.reply.ResolveReply.TheVariants as replies
 use Rattle.resolver.specs.Serving.Point.{Asking}
-use Rattle.resolver.proofs.Goes.{goes_none, rose_same}
-use Rattle.resolver.proofs.Whole.{whole, alone}
+use Rattle.resolver.proofs.Goes.{goes_none, failed_same}
+use Rattle.resolver.proofs.Whole.{whole_told, alone}
 use Rattle.resolver.proofs.resolving.resolve.Goals as goal
 
 pub returns-in-Err : goal.returns-in-Err
@@ -16,7 +16,7 @@ returns-in-Err g c =
     let p = g.R.Repo.fetches c.args.repo.now in
     let start = Asking path pin in
     record {
-      run = whole path pin start replies.NoMemory v v listing files x x p p (alone start start v v listing files x x p p refl (goes_none start v listing files x x (rose_same x))) refl refl;
+      run = whole_told path pin start replies.NoMemory v v listing files x x p p (alone start start v v listing files x x p p refl (goes_none start v listing files x x (failed_same x))) refl refl;
       images = λ image bytes is. is;
       firm = (λ is. is, λ is. is);
       listing = refl;

@@ -7,7 +7,7 @@ use Rattle.store_model.proofs.CallsHandles.{ticket_stays}
 use Rattle.resolver.specs.Serving.{ticket_for}
 use Rattle.resolver.specs.Serving.Point.{Waiting}
 use Rattle.resolver.specs.Steps.{Fetches, after_arrival, held_after_arrival}
-use Rattle.resolver.proofs.Goes.{goes_none, fetches_on, rose_same}
+use Rattle.resolver.proofs.Goes.{goes_none, fetches_on, failed_same}
 use Rattle.resolver.proofs.Handles.{images_then, iff_then}
 use Rattle.resolver.proofs.rounds.arrive.Goals as goal
 
@@ -28,7 +28,7 @@ loop-init g c = record {
   same = refl;
   goes = λ path. record {
     granted = 0;
-    goes = goes_none (Waiting (ticket_for path c.args.ticket)) (g.K.Desk.view c.args.desk.now) (g.R.Repo.listing c.args.repo.now) (g.R.Repo.files c.args.repo.now) (g.R.Repo.faults c.args.repo.now) (g.R.Repo.faults c.args.repo.now) (rose_same (g.R.Repo.faults c.args.repo.now));
+    goes = goes_none (Waiting (ticket_for path c.args.ticket)) (g.K.Desk.view c.args.desk.now) (g.R.Repo.listing c.args.repo.now) (g.R.Repo.files c.args.repo.now) (g.R.Repo.faults c.args.repo.now) (g.R.Repo.faults c.args.repo.now) (failed_same (g.R.Repo.faults c.args.repo.now));
     fetches = refl;
   };
   held = refl;
