@@ -1,13 +1,16 @@
 -- Drafts that are looked up.
-use Rattle.std.proofs.Common.{◌≡◌, ◌≤◌, ℕ, ◌+◌, ◌-◌, Bool, true, false, not, inl, inr, List, [], ◌∷◌, ◌++◌, map, length, Option, Some, None, refl, sym, ap, subst, arith, eq-eqb, ◌∙◌}
-use Rattle.std.specs.Prelude.{◌==◌, ◌&&◌, nat_le, find}
+use Rattle.std.proofs.Common.{◌≡◌, ◌<◌, ◌≤◌, ℕ, zero, suc, ◌+◌, ◌-◌, Bool, true, false, not, inl, inr, List, [], ◌∷◌, ◌++◌, get_or, map, length, Option, Some, None, refl, sym, ap, subst, arith, eq-eqb, ◌∙◌}
+use Rattle.std.specs.Prelude.{◌==◌, ◌&&◌, nat_le, nat_lt, find}
+use Rattle.std.specs.List.{position, position_or_len, remove}
 use Rattle.std.specs.Option.{option_map}
 use Rattle.std.proofs.lemmas.Bool.Decides.{nat_tests}
-use Rattle.std.proofs.lemmas.Bool.{cases_Bool, eqb-true, true≢false}
+use Rattle.std.proofs.lemmas.Bool.{cases_Bool, eqb-true, ltb-false, true≢false}
+use Rattle.std.proofs.lemmas.List.Quantifiers.{position-Some}
+use Rattle.std.proofs.lemmas.List.Recursion.{found_at}
 use Rattle.open_tracker.proofs.Finds.{find_gone, find_kept}
 use Rattle.plain_drafts.specs.Drafts.{DraftOf, Drafted, added, bytes_in, len_in, draft_of, draft_with, room_in, without_draft}
 
-abbrev is_of : ℕ → DraftOf → Bool
+abbrev pub is_of : ℕ → DraftOf → Bool
 is_of lane draft = draft.lane == lane
 
 find-map : {X : Type 0} (p : X → Bool) (f : X → X) → ((x : X) → p (f x) ≡ p x) → (xs : List X) → find p (map f xs) ≡ option_map f (find p xs)
@@ -47,6 +50,44 @@ ended lane old new is = subst (Drafted lane 0 [] old) (sym is) (record {
     | inr differs ↦ rw differs (ap bytes_in (kept lane old other differs))
   ];
 })
+
+-- ---- a draft that is taken
+
+past : {X : Type 0} (p : X → Bool) (xs : List X) → length xs ≤ position_or_len p xs → find p xs ≡ None
+past p [] le = refl
+past p (x ∷ xs) le = elim (cases_Bool (p x)) [
+  | inl holds ↦ absurd (let at : length (x ∷ xs) ≤ 0 = rw holds at le in omega arith)
+  | inr lacks ↦ rw lacks (past p xs (let at : suc (length xs) ≤ 1 + position_or_len p xs = rw lacks at le in omega arith))
+]
+
+-- without a place there is no draft
+pub placeless : (lane : ℕ) (drafts : List DraftOf) → position (is_of lane) drafts ≡ None → draft_with drafts lane ≡ None
+placeless lane drafts none = elim (cases_Bool (nat_lt (position_or_len (is_of lane) drafts) (length drafts))) [
+  | inl holds ↦ absurd (cc (rw holds at none))
+  | inr lacks ↦ past (is_of lane) drafts (ltb-false _ _ lacks)
+]
+
+-- at the place is the lane's draft
+pub placed : (lane : ℕ) (drafts : List DraftOf) (place : ℕ) (d : DraftOf) → position (is_of lane) drafts ≡ Some place
+    → draft_with drafts lane ≡ Some (get_or drafts place d)
+placed lane drafts place d is =
+    let at = position-Some (is_of lane) drafts place d is in
+    found_at (find (is_of lane)) (is_of lane) Some None refl (λ _ _. refl) drafts place d at.0 at.2 at.1
+
+without_one : (lane : ℕ) (drafts : List DraftOf) (place : ℕ) (d : DraftOf) → place < length drafts → is_of lane (get_or drafts place d) ≡ true
+    → without_draft (remove drafts place) lane ≡ without_draft drafts lane
+without_one lane [] place d lt own = absurd (omega (arith, lt))
+without_one lane (x ∷ drafts) zero d lt own = rw own refl
+without_one lane (x ∷ drafts) (suc place) d lt own = elim (cases_Bool (is_of lane x)) [
+  | inl mine ↦ rw mine (without_one lane drafts place d (omega (arith, lt)) own)
+  | inr not_mine ↦ rw not_mine (ap (λ (ds : List DraftOf). x ∷ ds) (without_one lane drafts place d (omega (arith, lt)) own))
+]
+
+-- without the draft at the place, the drafts but the lane's are the same
+pub others_left : (lane : ℕ) (drafts : List DraftOf) (place : ℕ) (d : DraftOf) → position (is_of lane) drafts ≡ Some place
+    → without_draft (remove drafts place) lane ≡ without_draft drafts lane
+others_left lane drafts place d is =
+    let at = position-Some (is_of lane) drafts place d is in without_one lane drafts place d at.0 at.1
 
 -- ---- a draft that begins
 

@@ -1,8 +1,10 @@
 //! The bytes that lanes have put under their claims.
 
-ghost use Rattle.std.specs.Prelude.{◌≡◌, ◌+◌, ◌≤◌, ◌++◌, [], length, map, option_copied, IfOk, OnOk, OnErr};
-ghost use Rattle.plain_drafts.specs.Drafts.{Drafted, added, draft_of, draft_with, room_in, without_draft};
+ghost use Rattle.std.specs.Prelude.{◌≡◌, ◌==◌, ◌+◌, ◌≤◌, ◌++◌, [], length, map, option_copied, IfOk, OnOk, OnErr};
+ghost use Rattle.std.specs.List.{position};
+ghost use Rattle.plain_drafts.specs.Drafts.{DraftOf, Drafted, added, draft_of, draft_with, room_in, without_draft};
 
+use pkg_names::Bytes;
 use std::alloc::{AllocError, Global};
 use std::marker::Model;
 
@@ -88,6 +90,17 @@ impl Drafts {
         add(&mut self.drafts, lane, bytes);
     }
 
+    /// Gives the bytes that the lane has put, without a copy. It has no room for a blob from now on.
+    pub fn take(&mut self, alloc: Global, lane: u32) -> Bytes
+        ensures bytes { result ≡ draft_of self.old lane }
+        ensures list { self.new ≡ without_draft self.old lane }
+        ensures drafted { Drafted lane 0 [] self.old self.new }
+    {
+        let bytes = take_first(alloc, &mut self.drafts, lane);
+        self.end(lane);
+        bytes
+    }
+
     /// The lane has no room for a blob from now on.
     pub fn end(&mut self, lane: u32)
         ensures list { self.new ≡ without_draft self.old lane }
@@ -101,6 +114,24 @@ fn draft_with(drafts: &[Draft], lane: u32) -> Option<&Draft>
     ensures { option_copied result ≡ draft_with drafts.now lane }
 {
     drafts.iter().find(|draft| draft.lane == lane)
+}
+
+// The place of the lane's first draft.
+fn place_of(drafts: &[Draft], lane: u32) -> Option<usize>
+    ensures { result ≡ position (λ (draft : DraftOf). draft.lane == lane) drafts.now }
+{
+    drafts.iter().position(|draft| draft.lane == lane)
+}
+
+// Takes the lane's first draft out of the drafts, and gives its bytes.
+fn take_first(alloc: Global, drafts: &mut Vec<Draft>, lane: u32) -> Bytes
+    ensures bytes { result ≡ draft_of drafts.old.items lane }
+    ensures others { without_draft drafts.new.items lane ≡ without_draft drafts.old.items lane }
+{
+    match place_of(drafts, lane) {
+        Some(place) => drafts.remove(place).into_bytes(),
+        None => Bytes::make(Vec::new(alloc)),
+    }
 }
 
 fn add(drafts: &mut [Draft], lane: u32, bytes: &[u8])
@@ -128,6 +159,15 @@ impl Draft {
         ensures { result.now ≡ self.now.bytes }
     {
         &self.buffer[..self.filled]
+    }
+
+    // The bytes that were put, without the rest of the room.
+    fn into_bytes(self) -> Bytes
+        ensures { result ≡ self.bytes }
+    {
+        let mut bytes = self.buffer;
+        bytes.truncate(self.filled);
+        Bytes::make(bytes)
     }
 
     fn room(&self) -> usize

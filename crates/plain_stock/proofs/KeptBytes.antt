@@ -4,7 +4,7 @@ use Rattle.std.specs.Option.{option_map}
 use Rattle.std.proofs.lemmas.Bool.{cases_Bool}
 use Rattle.pkg_names.specs.declared.root.Root.{Root}
 use Rattle.pkg_names.specs.Root.{root_eq}
-use Rattle.pkg_names.proofs.Roots.{root_eq-true}
+use Rattle.pkg_names.proofs.Roots.{root_eq-true, root_eq-refl}
 use Rattle.pkg_merkle.specs.Merkle.{merkle_root}
 use Rattle.store_model.specs.declared.events.LookedAt.{LookedAt}
 use Rattle.store_model.specs.State.{Stored, is_stored, stored_len}
@@ -82,3 +82,19 @@ bytes_undone root bytes {old} mid {new} {stock} are missing put gone = record {
         gone other ∙ ap (λ b. cond b None (seen_bytes mid other)) differs
         ∙ put other ∙ ap (λ b. cond b (Some bytes) (seen_bytes old other)) differs
   ]
+
+-- ---- a place that is filled
+
+-- what has bytes is there
+pub is_there : (root : Root) (bytes : List ℕ) (old new : List LookedAt) → Holds root (Some bytes) old new → is_some (seen_bytes new root) ≡ true
+is_there root bytes old new holds =
+    ap is_some (holds root ∙ ap (λ b. cond b (Some bytes) (seen_bytes old root)) (root_eq-refl root))
+
+-- the bytes that come last are those that stay
+pub last_holds : (root : Root) (first last : Option (List ℕ)) (old mid new : List LookedAt) → Holds root first old mid → Holds root last mid new
+    → Holds root last old new
+last_holds root first last old mid new before after other =
+    after other ∙ elim (cases_Bool (root_eq root other)) [
+      | inl own ↦ rw own refl
+      | inr differs ↦ rw differs (before other ∙ ap (λ b. cond b first (seen_bytes old other)) differs)
+    ]

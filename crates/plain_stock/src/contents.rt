@@ -1,6 +1,6 @@
 //! The bytes of the blobs that are stored.
 
-ghost use Rattle.std.specs.Prelude.{◌≡◌, [], Some, None, OnOk, OnErr, option_copied};
+ghost use Rattle.std.specs.Prelude.{◌≡◌, true, [], Some, None, OnOk, OnErr, is_some, option_copied};
 ghost use Rattle.store_model.specs.Systems.{seen_bytes};
 ghost use Rattle.plain_stock.specs.Contents.{Holds};
 
@@ -52,6 +52,24 @@ impl Contents {
     {
         self.blobs.insert(root, bytes)?;
         Ok(())
+    }
+
+    /// The root has a place from now on, without bytes.
+    pub fn reserve(&mut self, alloc: Global, root: Root) -> Result<(), AllocError>
+        ensures ok { OnOk result (Holds root (Some []) self.old self.new) }
+        ensures err { OnErr result (self.new ≡ self.old) }
+    {
+        self.put(root, Bytes::make(Vec::new(alloc)))
+    }
+
+    /// The root, which has a place, has these bytes from now on. It takes no memory.
+    pub fn fill(&mut self, root: &Root, bytes: Bytes)
+        requires { is_some (seen_bytes self.old root.now) ≡ true }
+        ensures { Holds root.now (Some bytes) self.old self.new }
+    {
+        if let Some(place) = self.blobs.get_mut(root) {
+            *place = bytes;
+        }
     }
 
     /// Takes a blob away, if it is there.
