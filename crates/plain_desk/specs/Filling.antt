@@ -1,12 +1,9 @@
 -- What comes of an update at a store.
-use Rattle.std.specs.Prelude.{◌≡◌, ◌≢◌, ℕ, List, [], Some}
+use Rattle.std.specs.Prelude.{ℕ, List, [], Some}
 use Rattle.image_layout.specs.declared.ImageKind.{ImageKind}
-use Rattle.image_layout.specs.declared.ImageKind.TheVariants as images
 use Rattle.image_layout.specs.declared.Sys.{Sys}
-use Rattle.image_layout.specs.Sums.{image_sum}
 use Rattle.store_model.specs.declared.ends.ActivateEnd.{ActivateEnd}
 use Rattle.store_model.specs.declared.ends.CopyEnd.{CopyEnd}
-use Rattle.store_model.specs.declared.ends.Difference.{Difference}
 use Rattle.store_model.specs.declared.ends.StageEnd.{StageEnd}
 use Rattle.store_model.specs.declared.ends.StageEnd.TheVariants as stages
 use Rattle.store_model.specs.declared.events.Act.TheVariants as acts
@@ -19,9 +16,8 @@ use Rattle.store_model.specs.declared.replies.StageReply.{StageReply}
 use Rattle.store_model.specs.declared.replies.StageReply.TheVariants as stage
 use Rattle.store_model.specs.Desk.{no_fillers}
 use Rattle.store_model.specs.Replies.{Acts, Looks, IsActivated, IsCopied, IsStaged}
-use Rattle.store_model.specs.Acts.Seal.{sum_in}
 use Rattle.plain_ledger.specs.Ledgers.{LedgerOf, Stays, Tells}
-use Rattle.plain_desk.specs.Stores.{ImagesOf, image_of}
+use Rattle.plain_desk.specs.Stores.{ImagesOf}
 pub use Rattle.plain_drafts.specs.Images.{HaveSums, HaveSumsBefore, IsDifference}
 
 -- ---- replies

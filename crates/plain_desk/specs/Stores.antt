@@ -1,8 +1,7 @@
 -- A store, as contracts see it, and what a lane's desk at it is seen as.
-use Rattle.std.specs.Prelude.{All, Bool, drop, true, false, ◌⊎◌, not, filter, ◌-◌, ◌&&◌, nat_le, ◌≡◌, ◌≢◌, ◌<◌, ◌≤◌, ℕ, ◌==◌, List, [], ◌∷◌, ◌++◌, length, find, Option, Some, None, IfSome, if◌then◌else◌}
+use Rattle.std.specs.Prelude.{All, Bool, drop, true, false, ◌⊎◌, ◌≡◌, ◌≢◌, ◌<◌, ◌≤◌, ℕ, ◌==◌, List, [], ◌∷◌, ◌++◌, length, Option, Some, None, IfSome, if◌then◌else◌}
 use Rattle.std.specs.List.{list_all}
 use Rattle.image_layout.specs.declared.ImageKind.{ImageKind}
-use Rattle.image_layout.specs.declared.ImageKind.TheVariants as images
 use Rattle.pkg_merkle.specs.declared.hasher.TheConstants.{BYTES_LIMIT}
 use Rattle.store_model.specs.declared.events.Event.{Event}
 use Rattle.store_model.specs.declared.events.LookedAt.{LookedAt}
@@ -27,7 +26,7 @@ use Rattle.store_model.specs.Replies.{Acts, Looks, IsBegun, IsRead, IsChecked}
 use Rattle.store_model.specs.History.{Origin, of_lane}
 use Rattle.store_model.specs.Holding.{HeldClaim, held}
 use Rattle.pkg_names.specs.declared.root.Root.{Root}
-use Rattle.store_model.specs.Desk.{View, Fillers, Keeping, filler_of, with_filler, filler_after}
+use Rattle.store_model.specs.Desk.{View, Keeping, filler_of}
 use Rattle.store_model.specs.Desk.Keeping.{Blob, Image}
 use Rattle.store_model.specs.Calls.{HasByteOf}
 use Rattle.plain_stock.specs.Contents.{AreBytesOf}

@@ -196,8 +196,7 @@ fn land(
         drafts.end(lane);
         return Ok(Some(end));
     }
-    store(alloc, ledger, contents, lane, root, drafts.bytes_of(lane))?;
-    drafts.end(lane);
+    store(alloc, ledger, contents, drafts, lane, root)?;
     Ok(None)
 }
 
@@ -220,29 +219,37 @@ fn landing_end(root: &Root, len: usize, bytes: &[u8]) -> Option<FetchEnd>
     None
 }
 
-// The blob is stored. Its bytes are copied, so without memory the lane still has them.
+// The blob is stored: it has a place first, and what the lane has put goes there once the ledger has the landing.
+// So without memory the lane still has its bytes, and nothing is copied.
 fn store(
     alloc: Global,
     ledger: &mut Ledger,
     contents: &mut Contents,
+    drafts: &mut Drafts,
     lane: u32,
     root: Root,
-    bytes: &[u8],
 ) -> Result<(), AllocError>
     requires agrees { Agrees ledger.old }
     requires blobs { AreBytesOf contents.old ledger.old.state.stock }
-    requires claim { IsSomeAnd (claim_of ledger.old.state.claims root) (IsRoomOf lane (length bytes.now)) }
-    requires root { merkle_root bytes.now ≡ root }
-    ensures ok { OnOk result (HasLanded lane root bytes.now ledger.old ledger.new) }
+    requires claim { IsSomeAnd (claim_of ledger.old.state.claims root)
+        (IsRoomOf lane (length (draft_of drafts.old lane))) }
+    requires root { merkle_root (draft_of drafts.old lane) ≡ root }
+    ensures ok { OnOk result (HasLanded lane root (draft_of drafts.old lane) ledger.old ledger.new) }
     ensures err { OnErr result (Stays ledger.old ledger.new) }
+    ensures ended { OnOk result (Drafted lane 0 [] drafts.old drafts.new) }
+    ensures kept { OnErr result (drafts.new ≡ drafts.old) }
     ensures blobs { AreBytesOf contents.new ledger.new.state.stock }
 {
+    let bytes = drafts.bytes_of(lane);
     let len = bytes.len() as u64;
     let meta = meta_landed(alloc, ledger.state(), &root, bytes)?;
     let seen = looked(alloc, root, &meta)?;
-    contents.put(root, copied(alloc, bytes)?)?;
+    contents.reserve(alloc, root)?;
     match ledger.land(lane, root, len, meta, seen) {
-        Ok(()) => Ok(()),
+        Ok(()) => {
+            contents.fill(&root, drafts.take(alloc, lane));
+            Ok(())
+        }
         Err(fault) => {
             contents.remove(&root);
             Err(fault)

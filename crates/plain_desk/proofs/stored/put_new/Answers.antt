@@ -1,4 +1,4 @@
-use Rattle.plain_desk.proofs.Blobs.{bytes_landed}
+use Rattle.plain_stock.proofs.KeptBytes.{bytes_landed}
 use Rattle.plain_desk.proofs.stored.put_new.Goals as goal
 
 pub returns-in-Ok-clause-bytes : goal.returns-in-Ok-clause-bytes
