@@ -1,5 +1,5 @@
 -- What a folder's tree gives, and what it tells.
-use Rattle.std.specs.Prelude.{◌≡◌, ℕ, ◌+◌, ◌<◌, ◌==◌, ◌&&◌, not, if◌then◌else◌, ⊤, List, [], ◌∷◌, ◌++◌, length, take, map, codes, All, Option, Some, None, IfSome, IsSomeAnd, IsSome}
+use Rattle.std.specs.Prelude.{◌≡◌, ℕ, ◌+◌, ◌<◌, ◌==◌, ◌&&◌, not, if◌then◌else◌, ⊤, ◌⊎◌, List, [], ◌∷◌, ◌++◌, length, take, map, codes, All, Option, Some, None, IfSome, IsSomeAnd, IsSome}
 use Rattle.std.specs.List.{Contains}
 use Rattle.std.specs.Ordering.{nat_cmp}
 use Rattle.std.specs.Cmp.Lexicographic.{slice_cmp}
@@ -48,6 +48,15 @@ Gives told folder before (File file) after = TakesName told folder before (Some 
 Gives told folder before End after = TakesName told folder before None after
 Gives told folder before Failed after = ⊤
 Gives told folder before NoMemory after = ⊤
+
+-- What failed is the file of the name that is taken, and it is the place; or it failed before names were gathered.
+abbrev pub FailsAt : Option (List ℕ → List (List ℕ)) → List ℕ → (before : Option (List (List ℕ))) → TreeReply
+    → (place : Option (List ℕ)) → (after : Option (List (List ℕ))) → Type 0
+FailsAt told folder before (File file) place after = ⊤
+FailsAt told folder before End place after = ⊤
+FailsAt told folder before Failed place after =
+    ((before ≡ None) × (after ≡ None)) ⊎ IsSomeAnd place (λ name. TakesName told folder before (Some name) after)
+FailsAt told folder before NoMemory place after = ⊤
 
 abbrev pub IfFile : TreeReply → (FarEntry → Type 0) → Type 0
 IfFile (File file) P = P file

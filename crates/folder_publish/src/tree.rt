@@ -1,11 +1,11 @@
 //! The files below a folder.
 
-ghost use Rattle.std.specs.Prelude.{◌≡◌, ◌≢◌, ◌≤◌, None, Some, IfOk, map};
+ghost use Rattle.std.specs.Prelude.{◌≡◌, ◌≢◌, ◌≤◌, None, Some, IfOk, IfErr, map};
 ghost use Rattle.std.specs.Option.{option_map, option_copied};
 ghost use Rattle.std.specs.String.{string_bytes};
 ghost use Rattle.pkg_names.specs.Streams.{Rose};
 ghost use Rattle.repo_publish.specs.Tree.{Takes};
-ghost use Rattle.folder_publish.specs.Tree.{TakesName, Gives, IfFile, HoldsFile, TellsPlace};
+ghost use Rattle.folder_publish.specs.Tree.{TakesName, Gives, FailsAt, IfFile, HoldsFile, TellsPlace};
 
 use crate::files::{FolderFiles, GatherFault};
 use crate::read::{ReadFault, read_entry};
@@ -76,7 +76,7 @@ impl<F: FolderFiles + Drop> Tree for FolderTree<'_, F> {
 
     ghost faults = { λ t. t.faults };
 
-    #[tactic(auto, using(crate::proofs::Took::none_told))]
+    #[tactic(auto, using(crate::proofs::Took::none_told, crate::proofs::Took::failed_at))]
     fn next(&mut self, alloc: Global) -> TreeReply
         ensures took { Takes None result None }
         ensures cause { result ≡ TreeReply.Failed → Rose self.old.faults self.new.faults }
@@ -85,6 +85,11 @@ impl<F: FolderFiles + Drop> Tree for FolderTree<'_, F> {
         // The least of the names that are left is given, and the others are left.
         ensures gives { Gives (F.below self.old.files) self.old.folder.now
             (option_map (λ set. map string_bytes set.keys) self.old.names) result
+            (option_map (λ set. map string_bytes set.keys) self.new.names) }
+        // What failed is the file of the least of them, or it failed before there were any.
+        ensures fails { FailsAt (F.below self.old.files) self.old.folder.now
+            (option_map (λ set. map string_bytes set.keys) self.old.names) result
+            (option_map string_bytes self.new.place)
             (option_map (λ set. map string_bytes set.keys) self.new.names) }
         ensures bytes { IfFile result (HoldsFile (F.files self.old.files) self.old.folder.now) }
         ensures place { TellsPlace (option_map string_bytes self.old.place) result
@@ -107,6 +112,7 @@ impl<F: FolderFiles + Drop> FolderTree<'_, F> {
         ensures takes { IfOk result (λ first. TakesName (F.below self.old.files) self.old.folder.now
             (option_map (λ set. map string_bytes set.keys) self.old.names) (option_map string_bytes first)
             (option_map (λ set. map string_bytes set.keys) self.new.names)) }
+        ensures untaken { IfErr result (λ _. (self.old.names ≡ None) × (self.new.names ≡ None)) }
         ensures place { self.new.place ≡ self.old.place }
         ensures faults { self.new.faults ≡ self.old.faults }
         ensures files_stay { self.new.files ≡ self.old.files }
@@ -130,6 +136,7 @@ impl<F: FolderFiles + Drop> FolderTree<'_, F> {
         ensures bytes { IfFile result (HoldsFile (F.files self.old.files) self.old.folder.now) }
         ensures place { TellsPlace (option_map string_bytes self.old.place) result
             (option_map string_bytes self.new.place) }
+        ensures failed { result ≡ TreeReply.Failed → self.new.place ≡ Some name }
         ensures names { self.new.names ≡ self.old.names }
         ensures files_stay { self.new.files ≡ self.old.files }
         ensures folder_stays { self.new.folder.now ≡ self.old.folder.now }
