@@ -2,7 +2,11 @@
 #![tactic(auto)]
 
 #[cfg(test)]
+mod memory;
+#[cfg(test)]
 mod resolves;
+#[cfg(test)]
+mod scene;
 #[cfg(test)]
 mod start;
 pub mod stores;

@@ -1,44 +1,24 @@
 //! Resolves of one lane, each by its printed events. The store runs a system of an empty list.
 
-ghost use Rattle.std.specs.Prelude.{◌≡◌, None};
-ghost use Rattle.store_model.specs.Holding.{held};
-ghost use Rattle.store_model.specs.History.{of_lane};
-
-use crate::stores::base_store;
+use crate::memory::is_served;
+use crate::scene::{make_scene, resolve_in};
 use package_shop::{Shop, with_roots};
-use package_url::{Url, read_url};
 use pkg_merkle::root_of;
 use pkg_names::{Bytes, Root};
-use plain_desk::{Lane, Store};
-use repo_source::MemRepo;
-use resolver::{ResolveReply, resolve};
+use resolver::ResolveReply;
 use script_lang::text_of;
 use std::alloc::Global;
 use std::sync::Wait;
 use std::test::Fail;
 
 // A package of two files.
-pub(crate) fn example(alloc: Global) -> Result<(Shop, Root), Fail> {
+fn example(alloc: Global) -> Result<(Shop, Root), Fail> {
     let mut shop = Shop::new(alloc);
     let mut lines = Vec::new(alloc);
     shop.line(&mut lines, b"data/a", b"hi")?;
     shop.line(&mut lines, b"data/b", b"b")?;
     let root = shop.package(b"example", lines)?;
     Ok((shop, root))
-}
-
-fn resolve_on<W: Wait>(
-    rt: &W,
-    alloc: Global,
-    store: &mut Store,
-    repo: &mut MemRepo,
-    url: &Url,
-) -> ResolveReply
-    requires no_file { url.now.file ≡ None }
-    requires free { (held (of_lane 1 store.old.history)).claim ≡ None }
-{
-    let mut desk = Lane::make(store, 1);
-    resolve(rt, alloc, &mut desk, repo, url)
 }
 
 // The history of a resolve of this URL on lane 1, from this shop, whose calls with these numbers fail.
@@ -49,24 +29,15 @@ fn history_of<W: Wait>(
     failing: &[u64],
     url: &[u8],
 ) -> Result<Bytes, Fail> {
-    let mut store = base_store(alloc)?;
-    let mut repo = shop.into_repo(failing.to_vec(alloc)?);
-    let url = read_url(alloc, url)?;
-    if url.file.is_some() {
-        return Err(Fail::new("a file"));
-    }
-    resolve_on(rt, alloc, &mut store, &mut repo, &url);
-    Ok(text_of(alloc, &store.into_history())?)
+    let mut scene = make_scene(alloc, shop, failing, url)?;
+    resolve_in(rt, alloc, &mut scene);
+    Ok(text_of(alloc, &scene.store.into_history())?)
 }
 
 const EXAMPLE: &[u8] = b"fuchsia-pkg://fuchsia.com/example";
 
-#[test]
-fn a_package_is_fetched_and_opened(rt: HostRuntime) -> Result<(), Fail> {
-    let alloc = rt.alloc();
-    let (shop, package) = example(alloc)?;
-    let text = history_of(&rt, alloc, shop, &[], EXAMPLE)?;
-    let want = b"1 0 boot A
+// The history where it is fetched. Its roots: the package and its two files.
+const FETCHED: &[u8] = b"1 0 boot A
 2 1 begin example/0 ticket $0
 3 1 want 2 fetch $0
 4 1 room $0 made 12288
@@ -79,16 +50,29 @@ fn a_package_is_fetched_and_opened(rt: HostRuntime) -> Result<(), Fail> {
 11 1 land $2 landed 1
 12 1 want 2 opened
 ";
-    let roots = [package, root_of(b"hi"), root_of(b"b")];
-    assert_eq!(rt;
-        text.as_slice(),
-        with_roots(alloc, want, &roots)?.as_slice()
-    );
+
+// Where an allocation of the resolve fails, the reply is want of memory, and the resolve is served when it is asked for
+// again. Where one before it fails, so does the set-up; behind it there is no text.
+#[test]
+fn a_package_is_fetched_and_opened(rt: HostRuntime) -> Result<(), Fail> {
+    let alloc = rt.alloc();
+    let (shop, package) = example(alloc)?;
+    let want = with_roots(alloc, FETCHED, &[package, root_of(b"hi"), root_of(b"b")])?;
+    let mut scene = make_scene(alloc, shop, &[], EXAMPLE)?;
+    let mut reply = resolve_in(&rt, alloc, &mut scene);
+    let starved = reply == ResolveReply::NoMemory;
+    if starved {
+        println!(rt; "starved")?;
+        reply = resolve_in(&rt, alloc, &mut scene);
+    }
+    assert!(rt; matches!(reply, ResolveReply::Resolved(_)));
+    let history = scene.store.into_history();
+    assert!(rt; is_served(alloc, &history, starved, 1, &want)?);
     Ok(())
 }
 
 // The text ends so.
-pub(crate) fn ends(alloc: Global, text: &Bytes, end: &[u8], roots: &[Root]) -> Result<bool, Fail> {
+fn ends(alloc: Global, text: &Bytes, end: &[u8], roots: &[Root]) -> Result<bool, Fail> {
     Ok(text.as_slice().ends_with(&with_roots(alloc, end, roots)?))
 }
 

@@ -1,8 +1,6 @@
 //! Stores that tests begin with.
 
-ghost use Rattle.std.specs.Prelude.{◌≡◌, None, IfOk};
-ghost use Rattle.store_model.specs.Holding.{held, nothing_held};
-ghost use Rattle.store_model.specs.History.{of_lane};
+ghost use Rattle.std.specs.Prelude.{IfOk};
 ghost use Rattle.script_server.specs.Lanes.{AreFresh};
 
 use abr_record::factory;
@@ -57,7 +55,7 @@ pub fn store_in(
 
 /// The same with room for 64 blobs and 1024 pages.
 pub fn store_of(alloc: Global, files: &[RepoFile], root: Root) -> Result<Store, Fail>
-    ensures { IfOk result (λ store. held (of_lane 1 store.history) ≡ nothing_held) }
+    ensures { IfOk result (λ store. AreFresh 0 store.history) }
 {
     let geometry = Geometry {
         blobs: 64,
@@ -69,7 +67,7 @@ pub fn store_of(alloc: Global, files: &[RepoFile], root: Root) -> Result<Store, 
 
 /// The store that has the system package of an empty list, and runs it.
 pub fn base_store(alloc: Global) -> Result<Store, Fail>
-    ensures { IfOk result (λ store. held (of_lane 1 store.history) ≡ nothing_held) }
+    ensures { IfOk result (λ store. AreFresh 0 store.history) }
 {
     let mut base = Shop::new(alloc);
     let root = base.package_of(b"system_image", b"data/static_packages", b"")?;

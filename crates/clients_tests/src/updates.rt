@@ -1,22 +1,30 @@
 //! Updates of one lane, each by its last events. The store runs a system of epoch 1 with an empty list.
 
-ghost use Rattle.std.specs.Prelude.{◌≡◌, None};
 ghost use Rattle.plain_desk.specs.Stores.{LeavesOthers};
-ghost use Rattle.store_model.specs.Holding.{held};
-ghost use Rattle.store_model.specs.History.{of_lane};
 
-use crate::stores::{base_store, sum_of};
+use crate::memory::is_served;
+use crate::scene::{make_scene, update_in};
+use crate::stores::sum_of;
+use abr_record::Slot;
 use package_shop::{Shop, with_roots};
-use package_url::{Url, read_url};
 use pkg_names::{Bytes, Root};
 use plain_desk::{Lane, Store};
-use repo_source::MemRepo;
 use script_lang::text_of;
 use std::alloc::Global;
 use std::sync::Wait;
 use std::test::Fail;
 use store_model::{Desk, StageReply};
-use system_updater::{UpdateReply, update};
+use system_updater::UpdateReply;
+
+const UPDATE: &[u8] = b"fuchsia-pkg://a/update";
+
+// How the history of an update ends that is staged.
+const STAGED: &[u8] = b"32 1 close 31 closed
+33 1 seal sealed
+34 1 activate active B
+35 1 leave-stage
+36 1 close 15 closed
+";
 
 const EPOCH: &[u8] = b"{\"version\":\"1\",\"epoch\":2}";
 
@@ -67,35 +75,16 @@ fn shop_of(alloc: Global, case: &Case) -> Result<(Shop, [Root; 4]), Fail> {
 }
 
 // The shop of an update to the system of an empty list.
-pub(crate) fn shop_of_update(alloc: Global) -> Result<Shop, Fail> {
+fn shop_of_update(alloc: Global) -> Result<Shop, Fail> {
     let case = good(b"", b"");
     Ok(shop_of(alloc, &case)?.0)
 }
 
-fn update_on<W: Wait>(
-    rt: &W,
-    alloc: Global,
-    store: &mut Store,
-    repo: &mut MemRepo,
-    url: &Url,
-) -> UpdateReply
-    requires no_file { url.now.file ≡ None }
-    requires free { (held (of_lane 1 store.old.history)).claim ≡ None }
-{
-    let mut desk = Lane::make(store, 1);
-    update(rt, alloc, &mut desk, repo, url)
-}
-
 // The history of an update on lane 1 from this shop.
 fn history_of<W: Wait>(rt: &W, alloc: Global, shop: Shop) -> Result<Bytes, Fail> {
-    let mut store = base_store(alloc)?;
-    let mut repo = shop.into_repo(Vec::new(alloc));
-    let url = read_url(alloc, b"fuchsia-pkg://a/update")?;
-    if url.file.is_some() {
-        return Err(Fail::new("a file"));
-    }
-    update_on(rt, alloc, &mut store, &mut repo, &url);
-    Ok(text_of(alloc, &store.into_history())?)
+    let mut scene = make_scene(alloc, shop, &[], UPDATE)?;
+    update_in(rt, alloc, &mut scene);
+    Ok(text_of(alloc, &scene.store.into_history())?)
 }
 
 // With good manifests.
@@ -151,16 +140,21 @@ fn ends_so<W: Wait>(rt: &W, alloc: Global, case: &Case) -> Result<bool, Fail> {
 }
 
 // With the list of the running system: the package that is resolved is there. The images are fetched, copied without
-// an event, and closed.
+// an event, and closed. Where an allocation of the update fails, the reply is want of memory, and the update is served
+// when it is asked for again. Where one before it fails, so does the set-up; behind it there is no text.
 #[test]
 fn an_update_is_staged(rt: HostRuntime) -> Result<(), Fail> {
-    let end = b"32 1 close 31 closed
-33 1 seal sealed
-34 1 activate active B
-35 1 leave-stage
-36 1 close 15 closed
-";
-    assert!(rt; ends_so(&rt, rt.alloc(), &good(b"", end))?);
+    let alloc = rt.alloc();
+    let mut scene = make_scene(alloc, shop_of_update(alloc)?, &[], UPDATE)?;
+    let mut reply = update_in(&rt, alloc, &mut scene);
+    let starved = reply == UpdateReply::NoMemory;
+    if starved {
+        println!(rt; "starved")?;
+        reply = update_in(&rt, alloc, &mut scene);
+    }
+    assert!(rt; reply == UpdateReply::Staged { slot: Slot::B });
+    let history = scene.store.into_history();
+    assert!(rt; is_served(alloc, &history, starved, 0, STAGED)?);
     Ok(())
 }
 
@@ -247,15 +241,13 @@ fn stage_by_another(store: &mut Store) -> bool
 #[test]
 fn another_lane_updates(rt: HostRuntime) -> Result<(), Fail> {
     let alloc = rt.alloc();
-    let mut repo = shop_of_update(alloc)?.into_repo(Vec::new(alloc));
-    let mut store = base_store(alloc)?;
-    let url = read_url(alloc, b"fuchsia-pkg://a/update")?;
-    if url.file.is_some() || !stage_by_another(&mut store) {
+    let mut scene = make_scene(alloc, shop_of_update(alloc)?, &[], UPDATE)?;
+    if !stage_by_another(&mut scene.store) {
         return Err(Fail::new("no turn"));
     }
-    let reply = update_on(&rt, alloc, &mut store, &mut repo, &url);
+    let reply = update_in(&rt, alloc, &mut scene);
     assert!(rt; matches!(reply, UpdateReply::Busy { lane: 2 }));
-    let text = text_of(alloc, &store.into_history())?;
+    let text = text_of(alloc, &scene.store.into_history())?;
     assert!(rt;
         text.as_slice()
             .ends_with(b"20 1 stage 2 busy 2\n21 1 close 16 closed\n")
