@@ -1,15 +1,23 @@
 //! Resolves of one lane, each by its printed events. The store runs a system of an empty list.
 
+ghost use Rattle.std.specs.Prelude.{◌≡◌, []};
+ghost use Rattle.store_model.specs.History.{of_lane};
+ghost use Rattle.plain_desk.specs.Stores.{LeavesOthers};
+
 use crate::memory::is_served;
 use crate::scene::{make_scene, resolve_in};
+use package_indexes::Choice;
 use package_shop::{Shop, with_roots};
+use package_url::read_url;
 use pkg_merkle::root_of;
-use pkg_names::{Bytes, Root};
+use pkg_names::{Bytes, PackagePath, Root};
+use plain_desk::{Lane, Store};
 use resolver::ResolveReply;
 use script_lang::text_of;
 use std::alloc::Global;
 use std::sync::Wait;
 use std::test::Fail;
+use store_model::{BeginReply, Desk, WantReply};
 
 // A package of two files.
 fn example(alloc: Global) -> Result<(Shop, Root), Fail> {
@@ -49,6 +57,23 @@ const FETCHED: &[u8] = b"1 0 boot A
 10 1 room $2 made 1
 11 1 land $2 landed 1
 12 1 want 2 opened
+";
+
+// The history where lane 2 has another package to fetch, whose root is the fourth.
+const FETCHED_BESIDE: &[u8] = b"1 0 boot A
+2 2 begin other/0 ticket $3
+3 2 want 2 fetch $3
+4 1 begin example/0 ticket $0
+5 1 want 4 fetch $0
+6 1 room $0 made 12288
+7 1 land $0 landed 12288
+8 1 want 4 fetch $1
+9 1 room $1 made 2
+10 1 land $1 landed 2
+11 1 want 4 fetch $2
+12 1 room $2 made 1
+13 1 land $2 landed 1
+14 1 want 4 opened
 ";
 
 // Where an allocation of the resolve fails, the reply is want of memory, and the resolve is served when it is asked for
@@ -162,5 +187,37 @@ fn refusals(rt: HostRuntime) -> Result<(), Fail> {
         let text = history_of(&rt, alloc, shop, failing, url)?;
         assert!(rt; ends(alloc, &text, end, &[root])?);
     }
+    Ok(())
+}
+
+// Lane 2 asks for this package. Whether its root is the lane's to fetch.
+fn claim_by_another(store: &mut Store, path: &PackagePath, root: Root) -> bool
+    requires fresh { of_lane 2 store.old.history ≡ [] }
+    ensures others { LeavesOthers 2 store.old.history store.new.history }
+{
+    let mut desk = Lane::make(store, 2);
+    let BeginReply::Made(ticket) = desk.begin(path, Choice::Pinned(root)) else {
+        desk.alone();
+        return false;
+    };
+    let claimed = matches!(desk.want(ticket), WantReply::Fetch(_, _));
+    desk.alone();
+    claimed
+}
+
+// Another lane fetches another package. Neither lane has to wait.
+#[test]
+fn another_lane_fetches(rt: HostRuntime) -> Result<(), Fail> {
+    let alloc = rt.alloc();
+    let (shop, package) = example(alloc)?;
+    let other = read_url(alloc, b"fuchsia-pkg://a/other")?;
+    let roots = [package, root_of(b"hi"), root_of(b"b"), root_of(b"other")];
+    let mut scene = make_scene(alloc, shop, &[], EXAMPLE)?;
+    if !claim_by_another(&mut scene.store, &other.path, roots[3]) {
+        return Err(Fail::new("no claim"));
+    }
+    resolve_in(&rt, alloc, &mut scene);
+    let text = text_of(alloc, &scene.store.into_history())?;
+    assert!(rt; ends(alloc, &text, FETCHED_BESIDE, &roots)?);
     Ok(())
 }

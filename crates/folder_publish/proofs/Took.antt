@@ -4,7 +4,6 @@ use Rattle.std.proofs.Common.{◌≡◌, ℕ, refl, sym, subst, inr, Option, Som
 use Rattle.std.specs.Option.{option_map}
 use Rattle.std.specs.Prelude.{IsSomeAnd}
 use Rattle.std.specs.String.{string_bytes}
-use Rattle.far_archive.specs.declared.write.FarEntry.{FarEntry}
 use Rattle.repo_publish.specs.Tree.{Takes}
 use Rattle.repo_publish.specs.declared.tree.TreeReply.{TreeReply}
 use Rattle.repo_publish.specs.declared.tree.TreeReply.TheVariants.{File, End, Failed, NoMemory}

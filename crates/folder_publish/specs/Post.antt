@@ -1,7 +1,6 @@
 -- What is put into a repository's folder, and what is told of what failed.
-use Rattle.std.specs.Prelude.{◌≡◌, ◌≢◌, ℕ, ⊤, Bool, true, false, List, ◌++◌, codes, Option, Some, None, Result, Ok, Err, IfSome, if◌then◌else◌}
+use Rattle.std.specs.Prelude.{◌≡◌, ◌≢◌, ℕ, Bool, true, false, List, ◌++◌, codes, Option, Some, None, Ok, Err, IfSome, if◌then◌else◌}
 use Rattle.std.specs.Str.{bytes_eq}
-use Rattle.pkg_names.specs.declared.pinned.Pinned.{Pinned}
 use Rattle.folder_repo.specs.Folder.{ReadsListing}
 use Rattle.folder_repo.specs.declared.listing.DirFault.TheVariants as faults
 use Rattle.repo_publish.specs.declared.post.PostListing.{PostListing}

@@ -1,10 +1,11 @@
 //! A repository in a folder, into which is published.
 
-ghost use Rattle.std.specs.Prelude.{◌≡◌, ◌↔◌, ◌≤◌, ◌++◌, None, Some, IfOk, is_ok, is_some};
+ghost use Rattle.std.specs.Prelude.{◌≡◌, ◌↔◌, ◌≤◌, ◌++◌, true, None, Some, IfOk, is_ok, is_some};
 ghost use Rattle.std.specs.String.{string_bytes};
 ghost use Rattle.pkg_names.specs.Streams.{Rose};
 ghost use Rattle.folder_repo.specs.Folder.{blob_name as name_of_blob, listing_name as name_of_listing};
-ghost use Rattle.repo_publish.specs.Post.{Has, IsListing};
+ghost use Rattle.repo_source.specs.Repo.{Fails};
+ghost use Rattle.repo_publish.specs.Post.{Has, IsListing, listing_failed, post_failed};
 ghost use Rattle.folder_publish.specs.Post.{blob_beside, listing_beside, AnswersListing, PutsIf, is_posted};
 ghost use Rattle.folder_publish.specs.declared.post.PutFault.TheVariants as faults;
 
@@ -88,8 +89,7 @@ impl<F: PutFiles + Drop> Post for FolderPost<'_, F> {
 
     fn listing(&mut self, alloc: Global) -> PostListing
         ensures have { Has None result }
-        ensures cause { result ≡ PostListing.Failed → Rose self.old.faults self.new.faults }
-        ensures faults { self.old.faults ≤ self.new.faults }
+        ensures faults { Fails (listing_failed result) self.old.faults self.new.faults }
         ensures list_faults { self.new.list_faults ≡ self.old.list_faults }
 
         // The answer is what the listing's file says, and no file changes.
@@ -113,8 +113,7 @@ impl<F: PutFiles + Drop> Post for FolderPost<'_, F> {
     }
 
     fn blob(&mut self, alloc: Global, root: &Root, bytes: &[u8]) -> PostReply
-        ensures cause { result ≡ PostReply.Failed → Rose self.old.faults self.new.faults }
-        ensures faults { self.old.faults ≤ self.new.faults }
+        ensures faults { Fails (post_failed result) self.old.faults self.new.faults }
         ensures list_faults { self.new.list_faults ≡ self.old.list_faults }
 
         // The blob is put under its root, whole or not at all. All other files stay.
@@ -136,9 +135,8 @@ impl<F: PutFiles + Drop> Post for FolderPost<'_, F> {
 
     fn list(&mut self, alloc: Global, bytes: &[u8]) -> PostReply
         requires listing { IsListing bytes.now }
-        ensures cause { result ≡ PostReply.Failed → Rose self.old.faults self.new.faults }
+        ensures faults { Fails (post_failed result) self.old.faults self.new.faults }
         ensures list_cause { result ≡ PostReply.Failed → Rose self.old.list_faults self.new.list_faults }
-        ensures faults { self.old.faults ≤ self.new.faults }
         ensures list_faults { self.old.list_faults ≤ self.new.list_faults }
 
         // The listing is put, whole or not at all. All other files stay.
@@ -164,8 +162,7 @@ impl<F: PutFiles + Drop> FolderPost<'_, F> {
     // It failed so.
     fn fail(&mut self, trouble: PostTrouble)
         ensures trouble { self.new.trouble ≡ Some trouble }
-        ensures rose { Rose self.old.faults self.new.faults }
-        ensures more { self.old.faults ≤ self.new.faults }
+        ensures faults { Fails true self.old.faults self.new.faults }
         ensures list_faults { self.new.list_faults ≡ self.old.list_faults }
         ensures files_stay { self.new.files ≡ self.old.files }
         ensures folder_stays { self.new.folder.now ≡ self.old.folder.now }

@@ -1,10 +1,10 @@
 //! The files below a folder.
 
-ghost use Rattle.std.specs.Prelude.{◌≡◌, ◌≢◌, ◌≤◌, None, Some, IfOk, IfErr, map};
+ghost use Rattle.std.specs.Prelude.{◌≡◌, ◌≢◌, true, None, Some, IfOk, IfErr, map};
 ghost use Rattle.std.specs.Option.{option_map, option_copied};
 ghost use Rattle.std.specs.String.{string_bytes};
-ghost use Rattle.pkg_names.specs.Streams.{Rose};
-ghost use Rattle.repo_publish.specs.Tree.{Takes};
+ghost use Rattle.repo_source.specs.Repo.{Fails};
+ghost use Rattle.repo_publish.specs.Tree.{Takes, tree_failed};
 ghost use Rattle.folder_publish.specs.Tree.{TakesName, Gives, FailsAt, IfFile, HoldsFile, TellsPlace};
 
 use crate::files::{FolderFiles, GatherFault};
@@ -79,8 +79,7 @@ impl<F: FolderFiles + Drop> Tree for FolderTree<'_, F> {
     #[tactic(auto, using(crate::proofs::Took::none_told, crate::proofs::Took::failed_at))]
     fn next(&mut self, alloc: Global) -> TreeReply
         ensures took { Takes None result None }
-        ensures cause { result ≡ TreeReply.Failed → Rose self.old.faults self.new.faults }
-        ensures faults { self.old.faults ≤ self.new.faults }
+        ensures faults { Fails (tree_failed result) self.old.faults self.new.faults }
 
         // The least of the names that are left is given, and the others are left.
         ensures gives { Gives (F.below self.old.files) self.old.folder.now
@@ -131,8 +130,7 @@ impl<F: FolderFiles + Drop> FolderTree<'_, F> {
     fn give(&mut self, alloc: Global, name: String) -> TreeReply
         ensures file { IfFile result (λ file. file.name ≡ string_bytes name) }
         ensures not_end { result ≢ TreeReply.End }
-        ensures cause { result ≡ TreeReply.Failed → Rose self.old.faults self.new.faults }
-        ensures faults { self.old.faults ≤ self.new.faults }
+        ensures faults { Fails (tree_failed result) self.old.faults self.new.faults }
         ensures bytes { IfFile result (HoldsFile (F.files self.old.files) self.old.folder.now) }
         ensures place { TellsPlace (option_map string_bytes self.old.place) result
             (option_map string_bytes self.new.place) }
@@ -154,8 +152,7 @@ impl<F: FolderFiles + Drop> FolderTree<'_, F> {
     // It failed at this place.
     fn fail(&mut self, place: String) -> TreeReply
         ensures failed { result ≡ TreeReply.Failed }
-        ensures rose { Rose self.old.faults self.new.faults }
-        ensures more { self.old.faults ≤ self.new.faults }
+        ensures faults { Fails true self.old.faults self.new.faults }
         ensures place { self.new.place ≡ Some place }
         ensures names { self.new.names ≡ self.old.names }
         ensures files_stay { self.new.files ≡ self.old.files }

@@ -1,6 +1,7 @@
 -- What a resolve and an update come to, as requests.
-use Rattle.std.proofs.Common.{◌≡◌, ◌≢◌, ℕ, ◌++◌, List, [], ◌∷◌, Option, refl, ap, ◌∙◌}
+use Rattle.std.proofs.Common.{◌≡◌, ◌≢◌, ℕ, ◌++◌, List, [], ◌∷◌, Option, refl, sym, ap, ◌∙◌}
 use Rattle.std.specs.Prelude.{◌↔◌}
+use Rattle.std.proofs.lemmas.List.{append-nil}
 use Rattle.open_tracker.specs.declared.dirs.DirEntry.{DirEntry}
 use Rattle.package_url.specs.declared.url.Url.{Url}
 use Rattle.pkg_names.specs.declared.pinned.Pinned.{Pinned}
@@ -15,10 +16,11 @@ use Rattle.resolver.specs.Serving.Point.{Asking}
 use Rattle.resolver.specs.Viewing.{IsHeldAfter, Resolves}
 use Rattle.system_updater.specs.declared.reply.UpdateReply.{UpdateReply}
 use Rattle.system_updater.specs.declared.reply.UpdateReply.TheVariants as updates
+use Rattle.system_updater.specs.Filled.{IsFilledBy}
 use Rattle.system_updater.specs.Viewing.{Told, told, Updates}
 use Rattle.system_updater.proofs.Goes.{does_resolve, does_update}
 use Rattle.lane_server.specs.declared.names.Binding.{Binding}
-use Rattle.lane_server.specs.Serving.{Serves, IsCut, after_resolve}
+use Rattle.lane_server.specs.Serving.{place_of, Serves, IsCut, after_resolve}
 use Rattle.lane_server.specs.Viewing.{Does}
 
 -- a part of what is held that no directory changes
@@ -45,9 +47,9 @@ module _ (url : Url) (old new : View) (listing listing_now : Option (List Pinned
   }
 
   pub resolve_served : (names later : List Binding) (name : List ℕ) (reply : ResolveReply) (is : Resolves url.path url.pin reply old new listing files x y p q) → reply ≢ resolved.NoMemory → later ≡ after_resolve names name reply
-      → listing_now ≡ listing → files_now ≡ files → F ↔ G → Does (λ run. Serves names (asks.Resolve name url) run later) old new (told listing files x p) (told listing_now files_now y q) F G
+      → listing_now ≡ listing → files_now ≡ files → F ↔ G → Does (λ run. Serves F (place_of new) names (asks.Resolve name url) run later) old new (told listing files x p) (told listing_now files_now y q) F G
   resolve_served names later name reply is whole after same_listing same_files firm =
-      resolve_does (λ run. Serves names (asks.Resolve name url) run later) reply is (record { reply = reply; serves = is.serves; whole = whole; leads = after }) same_listing same_files firm
+      resolve_does (λ run. Serves F (place_of new) names (asks.Resolve name url) run later) reply is (record { reply = reply; serves = is.serves; whole = whole; leads = after }) same_listing same_files firm
 
   pub resolve_cut : (name : List ℕ) (is : Resolves url.path url.pin resolved.NoMemory old new listing files x y p q) → listing_now ≡ listing → files_now ≡ files → F ↔ G
       → Does (IsCut (asks.Resolve name url)) old new (told listing files x p) (told listing_now files_now y q) F G
@@ -67,9 +69,10 @@ module _ (url : Url) (old new : View) (r s : Told) (F G : Type 0) where
     stage = ap (λ (h : Held). h.stage) is.held;
   }
 
-  pub update_served : (names : List Binding) (reply : UpdateReply) (is : Updates url.path url.pin reply old new r s) → reply ≢ updates.NoMemory → F ↔ G → Does (λ run. Serves names (asks.Update url) run names) old new r s F G
-  update_served names reply is whole firm =
-      update_does (λ run. Serves names (asks.Update url) run names) reply is (record { reply = reply; serves = is.serves; whole = whole; leads = refl }) firm
+  pub update_served : (names : List Binding) (reply : UpdateReply) (is : Updates url.path url.pin reply old new r s) → IsFilledBy F old new reply → reply ≢ updates.NoMemory → F ↔ G → Does (λ run. Serves F (place_of new) names (asks.Update url) run names) old new r s F G
+  update_served names reply is filled whole firm =
+      update_does (λ run. Serves F (place_of new) names (asks.Update url) run names) reply is
+      (record { reply = reply; serves = is.serves; filled = record { old = old; new = new; mine = is.grows; lane = refl; origin = refl; later = []; front = sym (append-nil new.seen); is = filled }; whole = whole; leads = refl }) firm
 
   pub update_cut : (is : Updates url.path url.pin updates.NoMemory old new r s) → F ↔ G → Does (IsCut (asks.Update url)) old new r s F G
   update_cut is firm = update_does (IsCut (asks.Update url)) updates.NoMemory is is.serves firm

@@ -37,7 +37,7 @@ use Rattle.system_updater.specs.Viewing.{Told}
 use Rattle.system_updater.proofs.Goes.{IsPlainEvent, plain_by, read_plain, retain_plain, does_event, does_rest, does_none}
 use Rattle.lane_server.specs.declared.names.Binding.{Binding}
 use Rattle.lane_server.specs.Names.{number_under, unbound}
-use Rattle.lane_server.specs.Serving.{Serves, after_open}
+use Rattle.lane_server.specs.Serving.{place_of, Serves, after_open}
 use Rattle.lane_server.specs.Viewing.{Does}
 
 -- ---- one event, or none
@@ -91,13 +91,13 @@ unopened names name opening.NoMemory isnt = refl
 
 module _ (names later : List Binding) (name : List ℕ) (path : NameAndVariant) (old new : View) (repo : Told) (F G : Type 0) where
   open_event : (reply : OpenReply) → later ≡ after_open names name reply → desk.Does old new (IsOpened path reply) → (held_by new).claim ≡ (held_by old).claim → (held_by new).tickets ≡ (held_by old).tickets → (held_by new).stage ≡ (held_by old).stage → F ↔ G
-      → Does (λ run. Serves names (asks.OpenPath name path) run later) old new repo repo F G
+      → Does (λ run. Serves F (place_of new) names (asks.OpenPath name path) run later) old new repo repo F G
   open_event reply after does claim tickets stage firm =
-      event_does old new repo F G (λ run. Serves names (asks.OpenPath name path) run later) (IsOpened path reply) does (λ leg is. record { reply = reply; event = is; leads = after })
+      event_does old new repo F G (λ run. Serves F (place_of new) names (asks.OpenPath name path) run later) (IsOpened path reply) does (λ leg is. record { reply = reply; event = is; leads = after })
       (open_plain path reply (length (old.seen ++ does.others) + 1) does.event does.its) claim tickets stage firm
 
   pub open_served : (reply : OpenReply) → (reply ≡ opening.NoMemory → ⊥) → later ≡ after_open names name reply → call.Opens path reply old new → F ↔ G
-      → Does (λ run. Serves names (asks.OpenPath name path) run later) old new repo repo F G
+      → Does (λ run. Serves F (place_of new) names (asks.OpenPath name path) run later) old new repo repo F G
   open_served (opening.Opened dir) isnt after is firm =
       let held = opened path (opening.Opened dir) old new is in
       open_event (opening.Opened dir) after is (ap (λ (h : Held). h.claim) held.1) (ap (λ (h : Held). h.tickets) held.1) (ap (λ (h : Held). h.stage) held.1) firm
@@ -112,13 +112,13 @@ module _ (names later : List Binding) (name : List ℕ) (path : NameAndVariant) 
 -- ---- a file is read
 
 module _ (names : List Binding) (name file : List ℕ) (dir : ℕ) (same : dir ≡ number_under names name) (old new : View) (repo : Told) (F G : Type 0) where
-  read_event : (reply : ReadReply) → desk.Does old new (IsRead dir file reply) → held_by new ≡ held_by old → F ↔ G → Does (λ run. Serves names (asks.Cat name file) run names) old new repo repo F G
+  read_event : (reply : ReadReply) → desk.Does old new (IsRead dir file reply) → held_by new ≡ held_by old → F ↔ G → Does (λ run. Serves F (place_of new) names (asks.Cat name file) run names) old new repo repo F G
   read_event reply does held firm =
-      held_does old new repo F G (λ run. Serves names (asks.Cat name file) run names) (IsRead dir file reply) does
+      held_does old new repo F G (λ run. Serves F (place_of new) names (asks.Cat name file) run names) (IsRead dir file reply) does
       (λ leg is. record { reply = reply; event = subst (λ (d : ℕ). IsOne (IsRead d file reply) leg) same is; leads = refl })
       (read_plain dir file reply (length (old.seen ++ does.others) + 1) does.event does.its) held firm
 
-  pub read_served : (reply : ReadReply) → (reply ≡ read.NoMemory → ⊥) → call.Reads dir file reply old new → F ↔ G → Does (λ run. Serves names (asks.Cat name file) run names) old new repo repo F G
+  pub read_served : (reply : ReadReply) → (reply ≡ read.NoMemory → ⊥) → call.Reads dir file reply old new → F ↔ G → Does (λ run. Serves F (place_of new) names (asks.Cat name file) run names) old new repo repo F G
   read_served (read.Got bytes) isnt is firm = read_event (read.Got bytes) is (held_after_read dir file (read.Got bytes) old new is) firm
   read_served read.BadDir isnt is firm = read_event read.BadDir is (held_after_read dir file read.BadDir old new is) firm
   read_served read.NoFile isnt is firm = read_event read.NoFile is (held_after_read dir file read.NoFile old new is) firm
@@ -140,13 +140,13 @@ check_plain dir file (check.Broken broken) number e is = plain_by (acts.Refused 
 check_plain dir file check.NoMemory number e is = absurd is
 
 module _ (names : List Binding) (name file : List ℕ) (dir : ℕ) (same : dir ≡ number_under names name) (old new : View) (repo : Told) (F G : Type 0) where
-  check_event : (reply : CheckReply) → desk.Does old new (IsChecked dir file reply) → held_by new ≡ held_by old → F ↔ G → Does (λ run. Serves names (asks.Check name file) run names) old new repo repo F G
+  check_event : (reply : CheckReply) → desk.Does old new (IsChecked dir file reply) → held_by new ≡ held_by old → F ↔ G → Does (λ run. Serves F (place_of new) names (asks.Check name file) run names) old new repo repo F G
   check_event reply does held firm =
-      held_does old new repo F G (λ run. Serves names (asks.Check name file) run names) (IsChecked dir file reply) does
+      held_does old new repo F G (λ run. Serves F (place_of new) names (asks.Check name file) run names) (IsChecked dir file reply) does
       (λ leg is. record { reply = reply; event = subst (λ (d : ℕ). IsOne (IsChecked d file reply) leg) same is; leads = refl })
       (check_plain dir file reply (length (old.seen ++ does.others) + 1) does.event does.its) held firm
 
-  pub check_served : (reply : CheckReply) → (reply ≡ check.NoMemory → ⊥) → call.Checks dir file reply old new → F ↔ G → Does (λ run. Serves names (asks.Check name file) run names) old new repo repo F G
+  pub check_served : (reply : CheckReply) → (reply ≡ check.NoMemory → ⊥) → call.Checks dir file reply old new → F ↔ G → Does (λ run. Serves F (place_of new) names (asks.Check name file) run names) old new repo repo F G
   check_served (check.Checked root len) isnt is firm = check_event (check.Checked root len) is (held_after_check dir file (check.Checked root len) old new is) firm
   check_served check.BadDir isnt is firm = check_event check.BadDir is (held_after_check dir file check.BadDir old new is) firm
   check_served check.NoFile isnt is firm = check_event check.NoFile is (held_after_check dir file check.NoFile old new is) firm
@@ -163,13 +163,13 @@ close_plain dir close.BadDir number e is = plain_by (acts.Close dir false) e is.
 close_plain dir close.NoMemory number e is = absurd is
 
 module _ (names later : List Binding) (name : List ℕ) (dir : ℕ) (same : dir ≡ number_under names name) (after : later ≡ unbound names name) (old new : View) (repo : Told) (F G : Type 0) where
-  close_event : (reply : CloseReply) → desk.Does old new (IsClosed dir reply) → held_by new ≡ record (held_by old) { dirs = (held_by new).dirs } → F ↔ G → Does (λ run. Serves names (asks.Close name) run later) old new repo repo F G
+  close_event : (reply : CloseReply) → desk.Does old new (IsClosed dir reply) → held_by new ≡ record (held_by old) { dirs = (held_by new).dirs } → F ↔ G → Does (λ run. Serves F (place_of new) names (asks.Close name) run later) old new repo repo F G
   close_event reply does held firm =
-      event_does old new repo F G (λ run. Serves names (asks.Close name) run later) (IsClosed dir reply) does
+      event_does old new repo F G (λ run. Serves F (place_of new) names (asks.Close name) run later) (IsClosed dir reply) does
       (λ leg is. record { reply = reply; event = subst (λ (d : ℕ). IsOne (IsClosed d reply) leg) same is; leads = after })
       (close_plain dir reply (length (old.seen ++ does.others) + 1) does.event does.its) (ap (λ (h : Held). h.claim) held) (ap (λ (h : Held). h.tickets) held) (ap (λ (h : Held). h.stage) held) firm
 
-  pub close_served : (reply : CloseReply) → (reply ≡ close.NoMemory → ⊥) → call.Closes dir reply old new → F ↔ G → Does (λ run. Serves names (asks.Close name) run later) old new repo repo F G
+  pub close_served : (reply : CloseReply) → (reply ≡ close.NoMemory → ⊥) → call.Closes dir reply old new → F ↔ G → Does (λ run. Serves F (place_of new) names (asks.Close name) run later) old new repo repo F G
   close_served close.Closed isnt is firm =
       let held = closed dir close.Closed old new is in close_event close.Closed is (held ∙ ap (λ (h : Held). record (held_by old) { dirs = h.dirs }) (sym held)) firm
   close_served close.BadDir isnt is firm =
@@ -191,23 +191,23 @@ commit_plain (commit.Broken broken) number e is = elim is [ inl refused ↦ plai
 commit_plain commit.NoMemory number e is = absurd is
 
 module _ (names : List Binding) (old new : View) (repo : Told) (F G : Type 0) where
-  collect_event : (reply : CollectReply) → desk.Does old new (IsCollected reply) → held_by new ≡ held_by old → F ↔ G → Does (λ run. Serves names asks.Collect run names) old new repo repo F G
+  collect_event : (reply : CollectReply) → desk.Does old new (IsCollected reply) → held_by new ≡ held_by old → F ↔ G → Does (λ run. Serves F (place_of new) names asks.Collect run names) old new repo repo F G
   collect_event reply does held firm =
-      held_does old new repo F G (λ run. Serves names asks.Collect run names) (IsCollected reply) does (λ leg is. record { reply = reply; event = is; leads = refl })
+      held_does old new repo F G (λ run. Serves F (place_of new) names asks.Collect run names) (IsCollected reply) does (λ leg is. record { reply = reply; event = is; leads = refl })
       (collect_plain reply (length (old.seen ++ does.others) + 1) does.event does.its) held firm
 
-  pub collect_served : (reply : CollectReply) → (reply ≡ collect.NoMemory → ⊥) → call.Collects reply old new → F ↔ G → Does (λ run. Serves names asks.Collect run names) old new repo repo F G
+  pub collect_served : (reply : CollectReply) → (reply ≡ collect.NoMemory → ⊥) → call.Collects reply old new → F ↔ G → Does (λ run. Serves F (place_of new) names asks.Collect run names) old new repo repo F G
   collect_served (collect.Removed roots) isnt is firm = collect_event (collect.Removed roots) is (held_after_collect (collect.Removed roots) old new is) firm
   collect_served collect.NotCommitted isnt is firm = collect_event collect.NotCommitted is (held_after_collect collect.NotCommitted old new is) firm
   collect_served (collect.Broken number) isnt is firm = collect_event (collect.Broken number) is (held_after_collect (collect.Broken number) old new is) firm
   collect_served collect.NoMemory isnt is firm = absurd (isnt refl)
 
-  retain_event : (roots : List Root) (reply : RetainReply) → desk.Does old new (IsRetained roots (length roots) reply) → held_by new ≡ held_by old → F ↔ G → Does (λ run. Serves names (asks.Retain roots) run names) old new repo repo F G
+  retain_event : (roots : List Root) (reply : RetainReply) → desk.Does old new (IsRetained roots (length roots) reply) → held_by new ≡ held_by old → F ↔ G → Does (λ run. Serves F (place_of new) names (asks.Retain roots) run names) old new repo repo F G
   retain_event roots reply does held firm =
-      held_does old new repo F G (λ run. Serves names (asks.Retain roots) run names) (IsRetained roots (length roots) reply) does (λ leg is. record { reply = reply; event = is; leads = refl })
+      held_does old new repo F G (λ run. Serves F (place_of new) names (asks.Retain roots) run names) (IsRetained roots (length roots) reply) does (λ leg is. record { reply = reply; event = is; leads = refl })
       (retain_plain roots (length roots) reply (length (old.seen ++ does.others) + 1) does.event does.its) held firm
 
-  pub retain_served : (roots : List Root) (reply : RetainReply) → (reply ≡ retain.NoMemory → ⊥) → call.Retains roots reply old new → F ↔ G → Does (λ run. Serves names (asks.Retain roots) run names) old new repo repo F G
+  pub retain_served : (roots : List Root) (reply : RetainReply) → (reply ≡ retain.NoMemory → ⊥) → call.Retains roots reply old new → F ↔ G → Does (λ run. Serves F (place_of new) names (asks.Retain roots) run names) old new repo repo F G
   retain_served roots retain.Done isnt is firm = retain_event roots retain.Done is (held_after_retain roots retain.Done old new is) firm
   retain_served roots retain.SlotInUse isnt is firm = retain_event roots retain.SlotInUse is (held_after_retain roots retain.SlotInUse old new is) firm
   retain_served roots retain.DiskRead isnt is firm = retain_event roots retain.DiskRead is (held_after_retain roots retain.DiskRead old new is) firm
@@ -215,12 +215,12 @@ module _ (names : List Binding) (old new : View) (repo : Told) (F G : Type 0) wh
   retain_served roots (retain.Broken number) isnt is firm = retain_event roots (retain.Broken number) is (held_after_retain roots (retain.Broken number) old new is) firm
   retain_served roots retain.NoMemory isnt is firm = absurd (isnt refl)
 
-  commit_event : (reply : CommitReply) → desk.Does old new (IsCommitted reply) → held_by new ≡ held_by old → F ↔ G → Does (λ run. Serves names asks.Commit run names) old new repo repo F G
+  commit_event : (reply : CommitReply) → desk.Does old new (IsCommitted reply) → held_by new ≡ held_by old → F ↔ G → Does (λ run. Serves F (place_of new) names asks.Commit run names) old new repo repo F G
   commit_event reply does held firm =
-      held_does old new repo F G (λ run. Serves names asks.Commit run names) (IsCommitted reply) does (λ leg is. record { reply = reply; event = is; leads = refl })
+      held_does old new repo F G (λ run. Serves F (place_of new) names asks.Commit run names) (IsCommitted reply) does (λ leg is. record { reply = reply; event = is; leads = refl })
       (commit_plain reply (length (old.seen ++ does.others) + 1) does.event does.its) held firm
 
-  pub commit_served : (reply : CommitReply) → (reply ≡ commit.NoMemory → ⊥) → call.Commits reply old new → F ↔ G → Does (λ run. Serves names asks.Commit run names) old new repo repo F G
+  pub commit_served : (reply : CommitReply) → (reply ≡ commit.NoMemory → ⊥) → call.Commits reply old new → F ↔ G → Does (λ run. Serves F (place_of new) names asks.Commit run names) old new repo repo F G
   commit_served commit.Committed isnt is firm = commit_event commit.Committed is (held_after_commit commit.Committed old new is) firm
   commit_served commit.NotPending isnt is firm = commit_event commit.NotPending is (held_after_commit commit.NotPending old new is) firm
   commit_served (commit.Broken number) isnt is firm = commit_event (commit.Broken number) is (held_after_commit (commit.Broken number) old new is) firm

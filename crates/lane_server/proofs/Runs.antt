@@ -18,7 +18,7 @@ use Rattle.system_updater.specs.Serving as update
 use Rattle.system_updater.specs.Serving.{IsOne, joined}
 use Rattle.system_updater.specs.Causes.{HasCause}
 use Rattle.lane_server.specs.declared.names.Binding.{Binding}
-use Rattle.lane_server.specs.Serving.{IsCalled, Serves, IsCut, Leads, ServesAll, ServesFront}
+use Rattle.lane_server.specs.Serving.{Place, IsCalled, Serves, IsCut, Leads, ServesAll, ServesFront}
 use Rattle.lane_server.specs.Laws.{IsDone, IsGivenUp, AreDone, AreDoneTo}
 
 -- one package is asked for, where anything is
@@ -36,18 +36,18 @@ module _ (begin : (path : NameAndVariant) (pin : Option Root) (run : List Number
     (ended : (path : NameAndVariant) (pin : Option Root) (run : List Numbered) (reply : ResolveReply) → resolve.Serves path pin run reply → AreEnded run)
     (last : (path : NameAndVariant) (pin : Option Root) (run : List Numbered) (reply : ResolveReply) → resolve.Serves path pin run reply → EndsAs reply run)
     (causes : (path : NameAndVariant) (pin : Option Root) (run : List Numbered) (reply : UpdateReply) → update.Serves path pin run reply → HasCause reply run) where
-  done : (names : List Binding) (ask : Ask) (run : List Numbered) (later : List Binding) → Serves names ask run later → IsDone ask run
-  done names (asks.Resolve name url) run later is =
+  done : (firm : Type 0) (place : Place) (names : List Binding) (ask : Ask) (run : List Numbered) (later : List Binding) → Serves firm place names ask run later → IsDone ask run
+  done firm place names (asks.Resolve name url) run later is =
       let asks = begin url.path url.pin run is.reply is.serves in
       (begins_once url.path url.pin run is.reply asks (last url.path url.pin run is.reply is.serves) is.whole, asks, ended url.path url.pin run is.reply is.serves)
-  done names (asks.OpenPath name path) run later is = called _ _ run later is
-  done names (asks.Cat name file) run later is = called _ _ run later is
-  done names (asks.Check name file) run later is = called _ _ run later is
-  done names (asks.Close name) run later is = called _ _ run later is
-  done names asks.Collect run later is = called _ _ run later is
-  done names (asks.Retain roots) run later is = called _ _ run later is
-  done names (asks.Update url) run later is = (is.reply, causes url.path url.pin run is.reply is.serves)
-  done names asks.Commit run later is = called _ _ run later is
+  done firm place names (asks.OpenPath name path) run later is = called _ _ run later is
+  done firm place names (asks.Cat name file) run later is = called _ _ run later is
+  done firm place names (asks.Check name file) run later is = called _ _ run later is
+  done firm place names (asks.Close name) run later is = called _ _ run later is
+  done firm place names asks.Collect run later is = called _ _ run later is
+  done firm place names (asks.Retain roots) run later is = called _ _ run later is
+  done firm place names (asks.Update url) run later is = (is.reply, causes url.path url.pin run is.reply is.serves)
+  done firm place names asks.Commit run later is = called _ _ run later is
 
   given_up : (ask : Ask) (run : List Numbered) → IsCut ask run → IsGivenUp ask run
   given_up (asks.Resolve name url) run is = (begin url.path url.pin run resolved.NoMemory is, ended url.path url.pin run resolved.NoMemory is)
@@ -60,23 +60,23 @@ module _ (begin : (path : NameAndVariant) (pin : Option Root) (run : List Number
   given_up (asks.Update url) run is = tt
   given_up asks.Commit run is = is
 
-  all_done : (names : List Binding) (all : List Ask) (runs : List (List Numbered)) (later : List Binding) → Leads names all runs later → AllZip IsDone all runs
-  all_done names [] [] later leads = tt
-  all_done names (ask ∷ others) (run ∷ runs) later leads = (done names ask run leads.0 leads.1, all_done leads.0 others runs later leads.2)
-  all_done names [] (run ∷ runs) later leads = absurd leads
-  all_done names (ask ∷ others) [] later leads = absurd leads
+  all_done : (firm : Type 0) (place : Place) (names : List Binding) (all : List Ask) (runs : List (List Numbered)) (later : List Binding) → Leads firm place names all runs later → AllZip IsDone all runs
+  all_done firm place names [] [] later leads = tt
+  all_done firm place names (ask ∷ others) (run ∷ runs) later leads = (done firm place names ask run leads.0 leads.1, all_done firm place leads.0 others runs later leads.2)
+  all_done firm place names [] (run ∷ runs) later leads = absurd leads
+  all_done firm place names (ask ∷ others) [] later leads = absurd leads
 
-  pub are_done : (all : List Ask) (events : List Numbered) → ServesAll all events → AreDone all events
-  are_done all events is = record { runs = is.runs; each = all_done [] all is.runs is.later is.leads; whole = is.whole }
+  pub are_done : (firm : Type 0) (place : Place) (all : List Ask) (events : List Numbered) → ServesAll firm place all events → AreDone all events
+  are_done firm place all events is = record { runs = is.runs; each = all_done firm place [] all is.runs is.later is.leads; whole = is.whole }
 
-  pub are_done_to : (all : List Ask) (events : List Numbered) → ServesFront all events → AreDoneTo all events
-  are_done_to all events is = record {
+  pub are_done_to : (firm : Type 0) (place : Place) (all : List Ask) (events : List Numbered) → ServesFront firm place all events → AreDoneTo all events
+  are_done_to firm place all events is = record {
     first = is.first;
     next = is.next;
     rest = is.rest;
     split = is.split;
     done = joined is.runs;
-    are = record { runs = is.runs; each = all_done [] is.first is.runs is.later is.leads; whole = refl };
+    are = record { runs = is.runs; each = all_done firm place [] is.first is.runs is.later is.leads; whole = refl };
     last = is.last;
     given_up = given_up is.next is.last is.cut;
     whole = is.whole;

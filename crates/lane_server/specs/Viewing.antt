@@ -6,8 +6,8 @@ use Rattle.system_updater.specs.Viewing.{Told}
 use Rattle.system_updater.specs.Viewing as viewing
 
 -- What the lane did is a run of which this is so. Of claims, tickets and stages it holds what it held. The repository
--- was asked once for each grant of the run, it failed as often as the run says, and the run fits what it tells, which
--- stays. The desk stays firm, or stays not.
+-- was asked once for each grant of the run, it failed at least as often as the run says, and the run fits what it
+-- tells, which stays. The desk stays firm, or stays not.
 pub record Does (IsIts : List Numbered → Type 0) (old new : View) (repo repo_now : Told) (Before After : Type 0)
     : Type 0 where
   pub run : List Numbered

@@ -5,7 +5,7 @@ ghost use Rattle.std.specs.Prelude.{◌≡◌, ◌≤◌, length};
 ghost use Rattle.script_lang.specs.declared.request.Ask.TheVariants as asks;
 ghost use Rattle.store_model.specs.declared.desk.TheConstants.{RETAIN_LIMIT};
 ghost use Rattle.system_updater.specs.Viewing.{Told};
-ghost use Rattle.lane_server.specs.Serving.{ServesOne};
+ghost use Rattle.lane_server.specs.Serving.{place_of, ServesOne};
 ghost use Rattle.lane_server.specs.Viewing.{Does};
 
 use crate::names::Names;
@@ -24,7 +24,8 @@ pub(crate) fn open<K: Desk>(
     path: &PackagePath,
 ) -> Result<(), AllocError>
     ensures { (repo : Told)
-        → Does (λ run. ServesOne result names.old.bindings (asks.OpenPath name.now path.now) run names.new.bindings)
+        → Does (λ run. ServesOne (K.firm desk.old) (place_of (K.view desk.new)) result names.old.bindings
+        (asks.OpenPath name.now path.now) run names.new.bindings)
         (K.view desk.old) (K.view desk.new) repo repo (K.firm desk.old) (K.firm desk.new) }
 {
     let Ok(copy) = names.reserve(alloc, name) else {
@@ -47,7 +48,8 @@ pub(crate) fn read<K: Desk>(
     file: &FilePath,
 ) -> Result<(), AllocError>
     ensures { (repo : Told)
-        → Does (λ run. ServesOne result names.now.bindings (asks.Cat name.now file.now) run names.now.bindings)
+        → Does (λ run. ServesOne (K.firm desk.old) (place_of (K.view desk.new)) result names.now.bindings
+        (asks.Cat name.now file.now) run names.now.bindings)
         (K.view desk.old) (K.view desk.new) repo repo (K.firm desk.old) (K.firm desk.new) }
 {
     match desk.read(names.dir(name), file) {
@@ -63,7 +65,8 @@ pub(crate) fn check<K: Desk>(
     file: &FilePath,
 ) -> Result<(), AllocError>
     ensures { (repo : Told)
-        → Does (λ run. ServesOne result names.now.bindings (asks.Check name.now file.now) run names.now.bindings)
+        → Does (λ run. ServesOne (K.firm desk.old) (place_of (K.view desk.new)) result names.now.bindings
+        (asks.Check name.now file.now) run names.now.bindings)
         (K.view desk.old) (K.view desk.new) repo repo (K.firm desk.old) (K.firm desk.new) }
 {
     match desk.check(names.dir(name), file) {
@@ -79,7 +82,8 @@ pub(crate) fn close<K: Desk>(
     name: &Texts,
 ) -> Result<(), AllocError>
     ensures { (repo : Told)
-        → Does (λ run. ServesOne result names.old.bindings (asks.Close name.now) run names.new.bindings)
+        → Does (λ run. ServesOne (K.firm desk.old) (place_of (K.view desk.new)) result names.old.bindings
+        (asks.Close name.now) run names.new.bindings)
         (K.view desk.old) (K.view desk.new) repo repo (K.firm desk.old) (K.firm desk.new) }
 {
     let dir = names.dir(name);
@@ -92,7 +96,8 @@ pub(crate) fn close<K: Desk>(
 
 pub(crate) fn collect<K: Desk>(desk: &mut K, names: &Names) -> Result<(), AllocError>
     ensures { (repo : Told)
-        → Does (λ run. ServesOne result names.now.bindings asks.Collect run names.now.bindings)
+        → Does (λ run. ServesOne (K.firm desk.old) (place_of (K.view desk.new)) result names.now.bindings
+        asks.Collect run names.now.bindings)
         (K.view desk.old) (K.view desk.new) repo repo (K.firm desk.old) (K.firm desk.new) }
 {
     match desk.collect() {
@@ -104,7 +109,8 @@ pub(crate) fn collect<K: Desk>(desk: &mut K, names: &Names) -> Result<(), AllocE
 pub(crate) fn retain<K: Desk>(desk: &mut K, names: &Names, roots: &[Root]) -> Result<(), AllocError>
     requires { length roots.now ≤ RETAIN_LIMIT }
     ensures { (repo : Told)
-        → Does (λ run. ServesOne result names.now.bindings (asks.Retain roots.now) run names.now.bindings)
+        → Does (λ run. ServesOne (K.firm desk.old) (place_of (K.view desk.new)) result names.now.bindings
+        (asks.Retain roots.now) run names.now.bindings)
         (K.view desk.old) (K.view desk.new) repo repo (K.firm desk.old) (K.firm desk.new) }
 {
     match desk.retain(roots) {
@@ -115,7 +121,8 @@ pub(crate) fn retain<K: Desk>(desk: &mut K, names: &Names, roots: &[Root]) -> Re
 
 pub(crate) fn commit<K: Desk>(desk: &mut K, names: &Names) -> Result<(), AllocError>
     ensures { (repo : Told)
-        → Does (λ run. ServesOne result names.now.bindings asks.Commit run names.now.bindings)
+        → Does (λ run. ServesOne (K.firm desk.old) (place_of (K.view desk.new)) result names.now.bindings
+        asks.Commit run names.now.bindings)
         (K.view desk.old) (K.view desk.new) repo repo (K.firm desk.old) (K.firm desk.new) }
 {
     match desk.commit() {

@@ -4,7 +4,7 @@ ghost use Rattle.std.specs.Prelude.{◌≡◌, None};
 ghost use Rattle.script_lang.specs.declared.request.Ask.TheVariants as asks;
 ghost use Rattle.store_model.specs.Calls.{HoldsNoClaim};
 ghost use Rattle.system_updater.specs.Viewing.{told};
-ghost use Rattle.lane_server.specs.Serving.{ServesOne};
+ghost use Rattle.lane_server.specs.Serving.{place_of, ServesOne};
 ghost use Rattle.lane_server.specs.Viewing.{Does};
 
 use crate::names::Names;
@@ -30,7 +30,8 @@ pub(crate) fn resolve<W: Wait, K: Desk, R: Repo>(
 ) -> Result<(), AllocError>
     requires no_file { url.now.file ≡ None }
     requires free { HoldsNoClaim (K.view desk.old) }
-    ensures { Does (λ run. ServesOne result names.old.bindings (asks.Resolve name.now url.now) run names.new.bindings)
+    ensures { Does (λ run. ServesOne (K.firm desk.old) (place_of (K.view desk.new)) result names.old.bindings
+        (asks.Resolve name.now url.now) run names.new.bindings)
         (K.view desk.old) (K.view desk.new)
         (told (R.listing repo.old) (R.files repo.old) (R.faults repo.old) (R.fetches repo.old))
         (told (R.listing repo.new) (R.files repo.new) (R.faults repo.new) (R.fetches repo.new))
@@ -60,7 +61,8 @@ pub(crate) fn update<W: Wait, K: Desk, R: Repo>(
 ) -> Result<(), AllocError>
     requires no_file { url.now.file ≡ None }
     requires free { HoldsNoClaim (K.view desk.old) }
-    ensures { Does (λ run. ServesOne result names.now.bindings (asks.Update url.now) run names.now.bindings)
+    ensures { Does (λ run. ServesOne (K.firm desk.old) (place_of (K.view desk.new)) result names.now.bindings
+        (asks.Update url.now) run names.now.bindings)
         (K.view desk.old) (K.view desk.new)
         (told (R.listing repo.old) (R.files repo.old) (R.faults repo.old) (R.fetches repo.old))
         (told (R.listing repo.new) (R.files repo.new) (R.faults repo.new) (R.fetches repo.new))

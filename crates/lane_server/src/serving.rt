@@ -6,7 +6,7 @@ ghost use Rattle.script_lang.specs.Servable.{IsServable};
 ghost use Rattle.store_model.specs.Calls.{HoldsNoClaim};
 ghost use Rattle.store_model.specs.History.{Numbered};
 ghost use Rattle.system_updater.specs.Viewing.{told};
-ghost use Rattle.lane_server.specs.Serving.{ServesOne, ServesTo, asks_of};
+ghost use Rattle.lane_server.specs.Serving.{place_of, ServesOne, ServesTo, asks_of};
 ghost use Rattle.lane_server.specs.Steps.{ServesOwn};
 ghost use Rattle.lane_server.specs.Viewing.{Does};
 
@@ -35,7 +35,8 @@ pub fn serve_lane<W: Wait, K: Desk, R: Repo>(
 ) -> Result<(), AllocError>
     requires servable { All IsServable (asks_of lane requests.now) }
     requires free { HoldsNoClaim (K.view desk.old) }
-    ensures { Does (ServesTo result (asks_of lane requests.now)) (K.view desk.old) (K.view desk.new)
+    ensures { Does (ServesTo (K.firm desk.old) (place_of (K.view desk.new)) result (asks_of lane requests.now))
+        (K.view desk.old) (K.view desk.new)
         (told (R.listing repo.old) (R.files repo.old) (R.faults repo.old) (R.fetches repo.old))
         (told (R.listing repo.new) (R.files repo.new) (R.faults repo.new) (R.fetches repo.new))
         (K.firm desk.old) (K.firm desk.new) }
@@ -59,7 +60,8 @@ fn serve_own<W: Wait, K: Desk, R: Repo>(
 ) -> Result<(), AllocError>
     requires servable { All IsServable (asks_of lane (request.now ∷ [])) }
     requires free { HoldsNoClaim (K.view desk.old) }
-    ensures { Does (λ run. ServesOwn result names.old.bindings (request.now.lane == lane) request.now.ask run
+    ensures { Does (λ run. ServesOwn (K.firm desk.old) (place_of (K.view desk.new)) result names.old.bindings
+        (request.now.lane == lane) request.now.ask run
         names.new.bindings)
         (K.view desk.old) (K.view desk.new)
         (told (R.listing repo.old) (R.files repo.old) (R.faults repo.old) (R.fetches repo.old))
@@ -83,7 +85,8 @@ fn serve<W: Wait, K: Desk, R: Repo>(
 ) -> Result<(), AllocError>
     requires servable { IsServable ask.now }
     requires free { HoldsNoClaim (K.view desk.old) }
-    ensures { Does (λ run. ServesOne result names.old.bindings ask.now run names.new.bindings)
+    ensures { Does (λ run. ServesOne (K.firm desk.old) (place_of (K.view desk.new)) result names.old.bindings
+        ask.now run names.new.bindings)
         (K.view desk.old) (K.view desk.new)
         (told (R.listing repo.old) (R.files repo.old) (R.faults repo.old) (R.fetches repo.old))
         (told (R.listing repo.new) (R.files repo.new) (R.faults repo.new) (R.fetches repo.new))

@@ -37,6 +37,7 @@ pub(crate) fn hash<S: Late, W: Sink, E: Report>(
     ensures line { OnOk result.told.line (Wrote (E.said errors.old)
         (line_of (ending_of_hashing result.status (S.opening file.new)) None name.now) (E.said errors.new)) }
     ensures line_failed { IsErrOf result.told.line Untold.Failed → Rose (E.faults errors.old) (E.faults errors.new) }
+    ensures line_unsaid { IsErrOf result.told.line Untold.NoMemory → errors.new ≡ errors.old }
 
     // The root is this file's.
     ensures done { result.status ≡ MerkleStatus.Done → IfSome (S.left file.old) (λ bytes.

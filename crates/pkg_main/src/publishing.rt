@@ -7,7 +7,9 @@ ghost use Rattle.pkg_names.specs.Streams.{Rose};
 ghost use Rattle.pkg_names.specs.Text.{line_feed};
 ghost use Rattle.system_lists.specs.Static.{line_text};
 ghost use Rattle.pkg_tool.specs.Written.{Wrote};
+ghost use Rattle.repo_source.specs.Repo.{Fails};
 ghost use Rattle.repo_publish.specs.Published.{package_root};
+ghost use Rattle.repo_publish.specs.Steps.{is_post_fault, is_tree_fault};
 ghost use Rattle.repo_publish.specs.Ends.{EndsAs, Stays, IsPosted, IfListed, IfPublished, IfUnwritten};
 ghost use Rattle.folder_publish.specs.declared.post.PostTrouble.{PostTrouble as TroubleOf};
 ghost use Rattle.pkg_report.specs.PublishLines.{line_of_publication, number_of_publication};
@@ -91,8 +93,8 @@ pub(crate) fn publish_tree<T: PlacedTree, P: TroubledPost, W: Sink, E: Report>(
     ensures listing { Stays (P.listing post.old) (P.listing post.new) (P.list_faults post.old)
         (P.list_faults post.new) result.end }
     ensures unwritten { IfUnwritten result.end (out.new ≡ out.old) }
-    ensures post_cause { result.end ≡ PublishEnd.PostFault → Rose (P.faults post.old) (P.faults post.new) }
-    ensures tree_cause { result.end ≡ PublishEnd.TreeFault → Rose (T.faults tree.old) (T.faults tree.new) }
+    ensures post_faults { Fails (is_post_fault result.end) (P.faults post.old) (P.faults post.new) }
+    ensures tree_faults { Fails (is_tree_fault result.end) (T.faults tree.old) (T.faults tree.new) }
     ensures sink_cause { result.end ≡ PublishEnd.SinkFault → Rose (W.faults out.old) (W.faults out.new) }
 {
     let end = publish(alloc, path, tree, post, out);

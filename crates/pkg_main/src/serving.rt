@@ -8,8 +8,8 @@ ghost use Rattle.script_lang.specs.Scripts.{IsRefused};
 ghost use Rattle.script_lang.specs.Text.{text as text_of_events};
 ghost use Rattle.system_updater.specs.Viewing.{told};
 ghost use Rattle.pkg_tool.specs.Words.{are_run_words};
-ghost use Rattle.pkg_tool.specs.Written.{Wrote, WroteFront};
-ghost use Rattle.pkg_tool.specs.Running.{IsRefusal, IsShort, Leaves, line_of_refusal};
+ghost use Rattle.pkg_tool.specs.Written.{Wrote, WroteFewer, WroteFront, WroteLines};
+ghost use Rattle.pkg_tool.specs.Running.{IsRefusal, IsShort, IsToldAtBadScript, Leaves, line_of_refusal};
 ghost use Rattle.pkg_report.specs.Endings.{ending_of, number_of_ending};
 ghost use Rattle.pkg_report.specs.Lines.{line_of};
 ghost use Rattle.pkg_main.specs.Names.{script_in};
@@ -49,11 +49,13 @@ pub(crate) fn serve<T: Wait, R: Repo, S: Late, W: Sink, E: Report>(
         (script_in (map string_bytes words.now)))
         (E.said errors.new)) }
     ensures line_failed { IsErrOf result.told.line Untold.Failed → Rose (E.faults errors.old) (E.faults errors.new) }
+    ensures line_unsaid { IsErrOf result.told.line Untold.NoMemory → errors.new ≡ errors.old }
 
     // The run is one of these words, repositories, script and output.
     ensures bad_words { (result.ended.status ≡ Status.BadWords) ↔ (are_run_words (map string_bytes words.now) ≡ false) }
     ensures bad_script { (line : ℕ) → result.ended.status ≡ Status.BadScript line → IsSomeAnd result.ended.why
         (λ why. (line ≡ line_of_refusal why) × IfSome (S.left script.old) (λ text. IsRefused text why)) }
+    ensures why { IsToldAtBadScript result.ended.status result.ended.why }
     ensures script_fault { result.ended.status ≡ Status.ScriptFault → Rose (S.faults script.old) (S.faults script.new) }
     ensures sink_fault { result.ended.status ≡ Status.SinkFault → Rose (W.faults out.old) (W.faults out.new) }
     ensures few { (have need : ℕ) → result.ended.status ≡ Status.FewRepos have need →
@@ -68,6 +70,10 @@ pub(crate) fn serve<T: Wait, R: Repo, S: Late, W: Sink, E: Report>(
     ensures printed { result.ended.status ≡ Status.Done →
         Wrote (W.written out.old) (text_of_events result.ended.history.items) (W.written out.new) }
     ensures front { WroteFront (W.written out.old) (text_of_events result.ended.history.items) (W.written out.new) }
+    ensures lines { result.ended.status ≡ Status.NoMemory →
+        WroteLines (W.written out.old) result.ended.history.items (W.written out.new) }
+    ensures fewer { result.ended.status ≡ Status.NoMemory → result.ended.starved ≡ false →
+        WroteFewer (W.written out.old) result.ended.history.items (W.written out.new) }
 {
     let ended = run(rt, alloc, words, repos, script, out);
     let ending = Ending::of(ended.status, script.opening());

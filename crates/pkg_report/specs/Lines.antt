@@ -81,14 +81,20 @@ listing_text number =
 
 -- ---- endings
 
+-- how the program is used, with an example of each command
+abbrev pub usage_text : List ℕ
+usage_text =
+    codes "usage: pkg run IMAGE REPO SCRIPT, pkg merkle FILE, or pkg publish FOLDER REPO PATH; for example "
+    ++ codes "pkg run demo/image demo/repo demo/scripts/read, pkg merkle demo/notes/data/text, or "
+    ++ codes "pkg publish demo/notes demo/repo notes"
+
 -- what was wrong, where this is the name of the script, the file or the repository
 abbrev pub ending_text : Ending → Option ScriptRefusal → List ℕ → List ℕ
 ending_text CannotOpen why name = codes "cannot open " ++ shown name
 ending_text NoListing why name = codes "cannot open " ++ shown name ++ codes "/listing"
 ending_text (BadListing number) why name = codes "cannot open " ++ shown name ++ codes "/listing" ++ listing_text number
 ending_text (Ran Done) why name = []
-ending_text (Ran BadWords) why name =
-    codes "usage: pkg run IMAGE REPO SCRIPT, pkg merkle FILE, or pkg publish FOLDER REPO PATH"
+ending_text (Ran BadWords) why name = usage_text
 ending_text (Ran (BadScript number)) why name = shown name ++ bad_script_text why number
 ending_text (Ran ScriptFault) why name = shown name ++ codes " could not be read to its end"
 ending_text (Ran SinkFault) why name = codes "the history could not be written whole"

@@ -3,7 +3,7 @@
 ghost use Rattle.std.specs.Prelude.{◌≡◌, ◌++◌, Option, OnOk, IfOk};
 ghost use Rattle.std.specs.String.{string_bytes};
 ghost use Rattle.script_lang.specs.declared.script.ScriptRefusal.{ScriptRefusal as RefusalOf};
-ghost use Rattle.pkg_report.specs.Lines.{shown_byte as byte_shown, shown, bad_script_text, ending_text, few_text, line_of, line_text_of, listing_text, root_text_at, script_text, url_text};
+ghost use Rattle.pkg_report.specs.Lines.{shown_byte as byte_shown, shown, bad_script_text, ending_text, few_text, line_of, line_text_of, listing_text, root_text_at, script_text, url_text, usage_text};
 
 use crate::ending::Ending;
 use package_url::UrlFault;
@@ -66,11 +66,7 @@ fn run_text(
 {
     match status {
         Status::Done => Ok(Vec::new(alloc)),
-        Status::BadWords => {
-            b"usage: pkg run IMAGE REPO SCRIPT, pkg merkle FILE, or pkg publish FOLDER REPO PATH".to_vec(
-                alloc,
-            )
-        }
+        Status::BadWords => usage_text(alloc),
         Status::BadScript { line } => {
             let fault = bad_script_text(alloc, why, line)?;
             about(alloc, b"", name, fault.as_bytes())
@@ -83,6 +79,20 @@ fn run_text(
             about(alloc, b"", name, few.as_bytes())
         }
     }
+}
+
+// How the program is used, with an example of each command.
+fn usage_text(alloc: Global) -> Result<Vec<u8>, AllocError>
+    ensures { IfOk result (λ text. text.items ≡ usage_text) }
+{
+    let forms =
+        b"usage: pkg run IMAGE REPO SCRIPT, pkg merkle FILE, or pkg publish FOLDER REPO PATH; for example ";
+    let mut text = forms.to_vec(alloc)?;
+    text.extend_from_slice(
+        b"pkg run demo/image demo/repo demo/scripts/read, pkg merkle demo/notes/data/text, or ",
+    )?;
+    text.extend_from_slice(b"pkg publish demo/notes demo/repo notes")?;
+    Ok(text)
 }
 
 fn few_text(alloc: Global, have: u32, need: u32) -> Result<String, AllocError>

@@ -18,8 +18,11 @@ use pkg_names::write_root;
 use repo_publish::{FILE_LIMIT, PublishEnd};
 use std::alloc::{AllocError, Global};
 use std::process::ExitCode;
+use system_lists::{ENTRY_LIMIT, LIST_LIMIT};
 
 const _: () = prove!(META_LIMIT == 1_048_576 && BYTES_LIMIT == 33_554_432 && FILE_LIMIT == 4096);
+
+const _: () = prove!(ENTRY_LIMIT == 4096 && LIST_LIMIT == 1_048_576);
 
 /// A publication that has ended, with what its line may name.
 #[derive(Clone, Copy)]
@@ -44,6 +47,7 @@ pub fn tell_publication<E: Report>(
         (option_copied ended.entry.place) ended.entry.trouble ended.entry.folder.now ended.entry.repo.now)
         (E.said errors.new)) }
     ensures failed { IsErrOf result.line Untold.Failed → Rose (E.faults errors.old) (E.faults errors.new) }
+    ensures unsaid { IsErrOf result.line Untold.NoMemory → errors.new ≡ errors.old }
 {
     Told {
         code: ExitCode::from(number_of(ended.end)),
@@ -60,6 +64,7 @@ fn tell_end<E: Report>(
         (option_copied ended.entry.place) ended.entry.trouble ended.entry.folder.now ended.entry.repo.now)
         (E.said errors.new)) }
     ensures failed { IsErrOf result Untold.Failed → Rose (E.faults errors.old) (E.faults errors.new) }
+    ensures unsaid { IsErrOf result Untold.NoMemory → errors.new ≡ errors.old }
 {
     // Where memory was short the line takes none.
     if ended.end == PublishEnd::NoMemory {

@@ -1,6 +1,6 @@
 //! What the program says on standard error: one line where the exit status isn't 0.
 
-ghost use Rattle.std.specs.Prelude.{◌≡◌, ◌≤◌, ℕ, List, Option, OnOk, OnErr, IsErrOf};
+ghost use Rattle.std.specs.Prelude.{◌≡◌, ◌≤◌, ℕ, List, Option, OnOk, OnErr, IsErrOf, IsOkUnless};
 ghost use Rattle.std.specs.Process.{exit_status};
 ghost use Rattle.pkg_names.specs.Streams.{Rose};
 ghost use Rattle.pkg_tool.specs.Written.{Wrote};
@@ -90,6 +90,7 @@ pub fn tell<E: Report>(
     ensures code { exit_status result.code ≡ number_of_ending ending }
     ensures line { OnOk result.line (Wrote (E.said errors.old) (line_of ending why name.now) (E.said errors.new)) }
     ensures failed { IsErrOf result.line Untold.Failed → Rose (E.faults errors.old) (E.faults errors.new) }
+    ensures unsaid { IsErrOf result.line Untold.NoMemory → errors.new ≡ errors.old }
 {
     Told {
         code: ExitCode::from(ending.number()),
@@ -106,6 +107,7 @@ fn tell_line<E: Report>(
 ) -> Result<(), Untold>
     ensures ok { OnOk result (Wrote (E.said errors.old) (line_of ending why name.now) (E.said errors.new)) }
     ensures failed { IsErrOf result Untold.Failed → Rose (E.faults errors.old) (E.faults errors.new) }
+    ensures unsaid { IsErrOf result Untold.NoMemory → errors.new ≡ errors.old }
 {
     // Where memory was short the line takes none.
     if ending == Ending::Ran(Status::NoMemory) {
@@ -121,6 +123,7 @@ fn tell_line<E: Report>(
 pub(crate) fn say<E: Report>(errors: &mut E, line: &[u8]) -> Result<(), Untold>
     ensures ok { OnOk result (Wrote (E.said errors.old) line.now (E.said errors.new)) }
     ensures err { OnErr result (Rose (E.faults errors.old) (E.faults errors.new)) }
+    ensures only { IsOkUnless result Untold.Failed }
 {
     match errors.say(line) {
         Ok(()) => Ok(()),

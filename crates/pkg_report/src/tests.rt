@@ -1,6 +1,6 @@
 use crate::ending::Ending;
 use crate::memory_report::MemReport;
-use crate::publish_lines::{Publication, number_of, publication_line};
+use crate::publish_lines::{Publication, number_of, tell_publication};
 use crate::report::{Untold, tell};
 use folder_publish::PostTrouble;
 use meta_contents::PackageNameFault;
@@ -80,6 +80,13 @@ fn tells_what_was_expected_in_a_line(rt: HostRuntime) -> Result<(), Fail> {
 fn tells_how_it_ended(rt: HostRuntime) -> Result<(), Fail> {
     for (ending, why, line) in [
         (Ending::Ran(Status::Done), None, b"".as_slice()),
+        (
+            Ending::Ran(Status::BadWords),
+            None,
+            b"usage: pkg run IMAGE REPO SCRIPT, pkg merkle FILE, or pkg publish FOLDER REPO PATH; for example \
+                pkg run demo/image demo/repo demo/scripts/read, pkg merkle demo/notes/data/text, or \
+                pkg publish demo/notes demo/repo notes\n",
+        ),
         (
             Ending::Ran(Status::BadScript { line: 4097 }),
             Some(ScriptRefusal::TooMany { number: 4097 }),
@@ -237,8 +244,10 @@ fn tells_how_a_publication_ended(rt: HostRuntime) -> Result<(), Fail> {
             repo: "r",
             trouble,
         };
-        let said = publication_line(alloc, ended)?;
-        assert_eq!(rt; said.as_slice(), line);
+        let mut report = MemReport::make(alloc, false);
+        let told = tell_publication(alloc, ended, &mut report);
+        assert_eq!(rt; told.line, Ok(()));
+        assert_eq!(rt; report.said(), line);
         assert_eq!(rt; number_of(end), number);
     }
     Ok(())

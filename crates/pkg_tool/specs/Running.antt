@@ -1,5 +1,5 @@
 -- How a run ends, and what its history is to the script.
-use Rattle.std.specs.Prelude.{◌≡◌, ℕ, ◌<◌, Bool, true, false, List, [], ◌⊎◌, Option, IfSome}
+use Rattle.std.specs.Prelude.{◌≡◌, ℕ, ◌<◌, Bool, true, false, List, [], ◌⊎◌, Option, None, IfSome}
 use Rattle.store_model.specs.declared.events.Event.{Event}
 use Rattle.script_lang.specs.declared.request.Request.{Request}
 use Rattle.script_lang.specs.declared.script.ScriptRefusal.{ScriptRefusal}
@@ -34,6 +34,11 @@ line_of_refusal refusals.TooLong = 0
 line_of_refusal (refusals.Line number why) = number
 line_of_refusal (refusals.TooMany number) = number
 line_of_refusal refusals.NoMemory = 0
+
+-- what is wrong with a script is told at `BadScript` alone
+abbrev pub IsToldAtBadScript : Status → Option ScriptRefusal → Type 0
+IsToldAtBadScript (BadScript line) why = Unit {0}
+IsToldAtBadScript status why = why ≡ None
 
 -- What a run with this end leaves. A history is empty where the run was refused, or where memory was short before the
 -- store was opened.

@@ -4,7 +4,7 @@ ghost use Rattle.std.specs.Prelude.{◌≡◌, ◌⊎◌, ◌++◌, ◌≤◌, [
 ghost use Rattle.pkg_names.specs.Streams.{Rose};
 ghost use Rattle.script_lang.specs.Text.{line as line_text, text};
 ghost use Rattle.pkg_tool.specs.declared.running.Status.TheVariants as statuses;
-ghost use Rattle.pkg_tool.specs.Written.{Wrote, WroteFront};
+ghost use Rattle.pkg_tool.specs.Written.{Wrote, WroteFewer, WroteFront};
 ghost use Rattle.pkg_tool.specs.Printing.{Prints, Goes, IsClosed, IsCutOff};
 ghost use Rattle.pkg_tool.specs.Steps.{IsPrintEnd};
 
@@ -23,6 +23,7 @@ pub(crate) fn print<W: Sink>(alloc: Global, out: &mut W, history: &[Event]) -> S
     ensures end { IsPrintEnd result }
     ensures done { result ≡ statuses.Done → Wrote (W.written out.old) (text history.now) (W.written out.new) }
     ensures front { WroteFront (W.written out.old) (text history.now) (W.written out.new) }
+    ensures lines { result ≡ statuses.NoMemory → WroteFewer (W.written out.old) history.now (W.written out.new) }
     ensures cause { result ≡ statuses.SinkFault → Rose (W.faults out.old) (W.faults out.new) }
 {
     let mut lines = Vec::new(alloc);
@@ -43,9 +44,9 @@ fn gather<W: Sink>(
     number: u64,
     event: &Event,
 ) -> Result<(), Status>
-    ensures goes { (first : Option (List ℕ)) (later whole : List ℕ)
-        → Prints first (W.written out.old) lines.old.items (line_text number event.now ++ later) whole
-        → Goes result first (W.written out.new) lines.new.items later whole }
+    ensures goes { (first : Option (List ℕ)) (bytes : List ℕ)
+        → Prints first (W.written out.old) lines.old.items bytes
+        → Goes result first (W.written out.new) lines.new.items bytes (line_text number event.now) }
     ensures cut { IfErr result (λ status. IsCutOff status (W.faults out.old) (W.faults out.new)) }
     ensures faults { W.faults out.old ≤ W.faults out.new }
 {

@@ -9,8 +9,8 @@ ghost use Rattle.script_lang.specs.Servable.{IsServable};
 ghost use Rattle.script_lang.specs.declared.request.Request.{Request as RequestOf};
 ghost use Rattle.system_updater.specs.Viewing.{told, Told};
 ghost use Rattle.pkg_tool.specs.Words.{are_run_words};
-ghost use Rattle.pkg_tool.specs.Written.{Wrote, WroteFront};
-ghost use Rattle.pkg_tool.specs.Running.{IsRefusal, IsShort, Leaves, line_of_refusal, number_of};
+ghost use Rattle.pkg_tool.specs.Written.{Wrote, WroteFewer, WroteFront, WroteLines};
+ghost use Rattle.pkg_tool.specs.Running.{IsRefusal, IsShort, IsToldAtBadScript, Leaves, line_of_refusal, number_of};
 ghost use Rattle.pkg_tool.specs.Steps.{IsBadScript, IsReadEnd, IsRefusalOf, last_status, refusal_of};
 
 use crate::input::{InputFault, read_all};
@@ -87,6 +87,7 @@ pub fn run<T: Wait, R: Repo, S: Source, W: Sink>(
     ensures bad_words { (result.status ≡ Status.BadWords) ↔ (are_run_words (map string_bytes words.now) ≡ false) }
     ensures bad_script { (line : ℕ) → result.status ≡ Status.BadScript line → IsSomeAnd result.why
         (λ why. (line ≡ line_of_refusal why) × IfSome (S.left script.old) (λ text. IsRefused text why)) }
+    ensures why { IsToldAtBadScript result.status result.why }
     ensures script_fault { result.status ≡ Status.ScriptFault → Rose (S.faults script.old) (S.faults script.new) }
     ensures sink_fault { result.status ≡ Status.SinkFault → Rose (W.faults out.old) (W.faults out.new) }
     ensures few { (have need : ℕ) → result.status ≡ Status.FewRepos have need →
@@ -101,6 +102,10 @@ pub fn run<T: Wait, R: Repo, S: Source, W: Sink>(
     ensures printed { result.status ≡ Status.Done →
         Wrote (W.written out.old) (text_of_events result.history.items) (W.written out.new) }
     ensures front { WroteFront (W.written out.old) (text_of_events result.history.items) (W.written out.new) }
+    ensures lines { result.status ≡ Status.NoMemory →
+        WroteLines (W.written out.old) result.history.items (W.written out.new) }
+    ensures fewer { result.status ≡ Status.NoMemory → result.starved ≡ false →
+        WroteFewer (W.written out.old) result.history.items (W.written out.new) }
 {
     if !are_run(words) {
         return refused(alloc, Refusal::of(Status::BadWords), repos);
@@ -189,6 +194,7 @@ fn script_of<S: Source>(alloc: Global, script: &mut S) -> Result<Script, Refusal
     ensures fault { IfErr result (λ refusal. refusal.status ≡ Status.ScriptFault →
         Rose (S.faults script.old) (S.faults script.new)) }
     ensures end { IfErr result (λ refusal. IsReadEnd refusal.status) }
+    ensures why { IfErr result (λ refusal. IsToldAtBadScript refusal.status refusal.why) }
 {
     match read_all(alloc, script, SCRIPT_LIMIT) {
         Ok(text) => script_in(alloc, &text),

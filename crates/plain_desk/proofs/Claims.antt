@@ -62,7 +62,7 @@ pub room_made : {E : Type 0} {old new : LedgerOf} (lane len : ℕ) (root : Root)
     → IsStore new blobs drafts' images
 room_made {E} {old} {new} lane len root (Ok end) is claim notes room short err none =
     drafted is notes (bytes_stay is.stored notes refl) room (room_given (held (of_lane lane old.history)) (next_number old) lane root len end claim)
-    (omega arith) short
+    (omega arith) short refl
 room_made lane len root (Err e) is claim notes room short err none = drafted_still is err none (sym (ap len_of claim)) (omega arith) (omega arith)
 
 pub put_made : {old new : LedgerOf} (lane : ℕ) (root : Root) (piece : List ℕ) {blobs : List LookedAt} {drafts drafts' : List DraftOf}
@@ -75,7 +75,7 @@ put_made {old} lane root piece {blobs} {drafts} None is same fits d =
     drafted_still is (same_stays same is.holds) d (is.roomy.rooms lane)
     (omega (arith, fits, length-append (draft_of drafts lane) piece)) (is.roomy.short lane)
 put_made lane root piece (Some end) is notes over d =
-    drafted is notes (bytes_stay is.stored notes refl) d refl (omega arith) (omega arith)
+    drafted is notes (bytes_stay is.stored notes refl) d refl (omega arith) (omega arith) refl
 
 -- a claimed blob isn't stored
 pub unstored : (l : LedgerOf) (root : Root) (P : ClaimEntry → Type 0) → Agrees l → IsSomeAnd (claim_of l.state.claims root) P

@@ -63,7 +63,7 @@ copied_event tie lane image dir file reply old new drafts i i2 was fillers is a 
 same_store : {old new : LedgerOf} {blobs : List LookedAt} {drafts : List DraftOf} {i i2 : ImagesOf} → IsStore old blobs drafts i → new ≡ old → AreFilled i2
     → IsStore new blobs drafts i2
 same_store {old} {new} {blobs} {drafts} {i} {i2} is same filled = subst (λ (l : LedgerOf). IsStore l blobs drafts i2) (sym same)
-    (record { holds = is.holds; stored = is.stored; roomy = is.roomy; filled = filled; unbroken = is.unbroken })
+    (record { holds = is.holds; stored = is.stored; roomy = is.roomy; filled = filled; unbroken = is.unbroken; steady = is.steady })
 
 came_filled : (image : ImageKind) (s : State) (f : Found) (root : Root) (bytes : List ℕ) (have : ℕ) (i i2 : ImagesOf) → IsSource s f root bytes → CameFrom image root bytes have i i2 → AreFilled i → AreFilled i2
 came_filled image s f root bytes have i i2 source came filled = λ kind. filled_on image kind root bytes i i2 source.own came.appended filled

@@ -27,6 +27,7 @@ use Rattle.store_model.specs.Calls.{Activates, Commits, Seals, Stages, KeepsAtSe
 use Rattle.store_model.proofs.Frames.{keeps_next}
 use Rattle.plain_state.specs.Holdings.{sealed_in}
 use Rattle.plain_ledger.specs.Ledgers.{LedgerOf, Agrees, Notes, Tells, event_by, next_number}
+use Rattle.plain_desk.specs.Memory.{InMemory}
 use Rattle.plain_desk.specs.Stores.{AreFilled, DraftOf, ImagesOf, StoreOf, IsStore, image_of, kept_for, view_of}
 use Rattle.plain_desk.specs.Filling.{IsSealedOf, StagedBy, images_at_stage}
 use Rattle.plain_desk.proofs.Stores.{Moves, handles, here, moved, rests, stays_moves, store_of, tells, tells_moves, told, view_at}
@@ -114,6 +115,7 @@ staged {i = i} lane epoch reply is by left =
       roomy = now.roomy;
       filled = subst AreFilled (sym left) (filled_at reply i now.filled);
       unbroken = now.unbroken;
+      steady = now.steady;
     }
 
 pub stages : {drafts : List DraftOf} {i : ImagesOf} {was : StoreOf} (tie : List ℕ) (lane epoch : ℕ) (reply : StageReply) (old new : LedgerOf) (fillers : Fillers)
@@ -163,6 +165,6 @@ all_kept {drafts} {i} lane l new is = subst (λ (s : StoreOf). Keeps (kept_for l
 
 -- ---- the event of `stage`
 
-pub staged_by : (lane epoch : ℕ) (reply : StageReply) (old new : LedgerOf) → Tells lane (IsStaged epoch reply) old new → StagedBy lane epoch reply old new
-staged_by lane epoch stage.NoMemory old new t = absurd t.its
+pub staged_by : (lane epoch : ℕ) (reply : StageReply) (old new : LedgerOf) → Tells lane (InMemory (IsStaged epoch reply)) old new → StagedBy lane epoch reply old new
+staged_by lane epoch stage.NoMemory old new t = absurd t.its.its
 staged_by lane epoch reply old new t = t

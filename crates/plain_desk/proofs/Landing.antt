@@ -19,12 +19,12 @@ pub land_made : {E : Type 0} {old new : LedgerOf} (lane : ℕ) (root : Root) (le
     → IfOk r (λ end. IsLandedAs lane root len bytes end old new) → OnErr r (Stays old new)
     → IfOk r (λ end. Drafted lane 0 [] drafts drafts') → OnErr r (drafts' ≡ drafts) → AreBytesOf blobs' new.state.stock
     → IsStore new blobs' drafts' images
-land_made lane root len bytes (Ok None) is ok err ended kept stored = drafted is ok.2.notes stored ended refl (omega arith) (omega arith)
-land_made lane root len bytes (Ok (Some end)) is ok err ended kept stored = drafted is ok.1 stored ended refl (omega arith) (omega arith)
+land_made lane root len bytes (Ok None) is ok err ended kept stored = drafted is ok.2.notes stored ended refl (omega arith) (omega arith) refl
+land_made lane root len bytes (Ok (Some end)) is ok err ended kept stored = drafted is ok.1 stored ended refl (omega arith) (omega arith) refl
 land_made {E} {old} {new} lane root len bytes {blobs} {blobs'} {drafts} {drafts'} {images} (Err e) is ok err ended kept stored =
     let m = moved is (stays_moves err) in
     subst (λ (ds : List DraftOf). IsStore new blobs' ds images) (sym kept)
-    (record { holds = m.holds; stored = stored; roomy = m.roomy; filled = m.filled; unbroken = m.unbroken })
+    (record { holds = m.holds; stored = stored; roomy = m.roomy; filled = m.filled; unbroken = m.unbroken; steady = m.steady })
 
 pub landed : {tie : List ℕ} {lane : ℕ} {old new : LedgerOf} (root : Root) {drafts : List DraftOf} {images : ImagesOf} {fillers : Fillers}
     {was : StoreOf} → store_of old drafts images ≡ was → HaveRoom drafts old.history

@@ -1,5 +1,6 @@
 -- A store that has booted holds what a store holds.
 use Rattle.std.proofs.Common.{◌≡◌, ℕ, Bool, true, false, eqb, List, [], ◌∷◌, refl, sym, ap, subst, ◌∙◌, arith}
+use Rattle.std.proofs.lemmas.List.Elements.{All-nil, All-push}
 use Rattle.abr_record.specs.declared.Slot.{Slot}
 use Rattle.image_layout.specs.declared.ImageKind.TheVariants as images
 use Rattle.image_layout.specs.declared.geometry.Geometry.{Geometry}
@@ -10,6 +11,7 @@ use Rattle.store_model.specs.Acts.Boot.{next_boot}
 use Rattle.plain_stock.specs.Contents.{AreBytesOf}
 use Rattle.plain_state.specs.Learning.{IsSettled}
 use Rattle.plain_ledger.specs.Ledgers.{LedgerOf, Begins, event_by, origin_of}
+use Rattle.plain_desk.specs.Memory.{AreOfMemory, IsOfMemory}
 use Rattle.plain_desk.specs.Stores.{HaveRoom, IsStore, AreFilled, room_of}
 use Rattle.plain_desk.specs.Opening.{no_images}
 
@@ -34,4 +36,5 @@ booted {slot = slot} {seen = seen} {blobs = blobs} bytes settled begins = record
   roomy = subst (HaveRoom []) (sym begins.history) (roomy slot seen);
   filled = unfilled;
   unbroken = ap (λ (x : State). x.broken) begins.state ∙ ap (λ (x : State). x.broken) settled.state.rest;
+  steady = subst AreOfMemory (sym begins.history) (All-push IsOfMemory [] (event_by 0 (acts.Boot slot seen)) (All-nil IsOfMemory) refl);
 }

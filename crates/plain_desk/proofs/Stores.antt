@@ -30,6 +30,7 @@ use Rattle.store_model.proofs.Holding.{holds_as_state}
 use Rattle.store_model.proofs.HoldingThere.{handles_there}
 use Rattle.plain_stock.specs.Contents.{AreBytesOf}
 use Rattle.plain_ledger.specs.Ledgers.{LedgerOf, Agrees, Notes, Stays, Tells, event_by, next_number}
+use Rattle.plain_desk.specs.Memory.{AreOfMemory, InMemory, IsOfMemory}
 use Rattle.plain_desk.specs.Stores.{Clears, DraftOf, Drafted, ImagesOf, StoreOf, HaveRoom, IsStore, draft_of, room_in, len_of, room_of, view_of, IsFileThere}
 
 -- the store with this ledger and these drafts and images
@@ -83,9 +84,9 @@ does {tie} {lane} {old} {new} {drafts} {images} {fillers} IsIts is n its =
     (does_at tie images.fillers fillers IsIts n its)
 
 pub tells : {tie : List ℕ} {lane : ℕ} {old new : LedgerOf} {drafts : List DraftOf} {images : ImagesOf} {fillers : Fillers}
-    {was : StoreOf} (IsIts : ℕ → Event → Type 0) → store_of old drafts images ≡ was → Tells lane IsIts old new
+    {was : StoreOf} (IsIts : ℕ → Event → Type 0) → store_of old drafts images ≡ was → Tells lane (InMemory IsIts) old new
     → Does (view_of tie lane was) (view_at tie lane new fillers) IsIts
-tells IsIts is t = does IsIts is t.notes t.its
+tells IsIts is t = does IsIts is t.notes t.its.its
 
 rests_at : (tie : List ℕ) (lane : ℕ) {old new : LedgerOf} (fillers fillers' : Fillers)
     → Stays old new → Rests (view_at tie lane old fillers) (view_at tie lane new fillers')
@@ -168,12 +169,13 @@ no_draft drafts history lane had none = none_left (draft_of drafts lane) (omega 
 
 -- ---- what most calls leave
 
--- The blobs that are stored, and the room that each lane has.
+-- The blobs that are stored, and the room that each lane has. What comes tells of no disk.
 pub record Moves (old new : LedgerOf) : Type 0 where
   pub holds : Agrees new
   pub stock : new.state.stock ≡ old.state.stock
   pub rooms : (lane : ℕ) → room_of lane new.history ≡ room_of lane old.history
   pub broken : new.state.broken ≡ old.state.broken
+  pub steady : AreOfMemory old.history → AreOfMemory new.history
 
 pub moved : {old new : LedgerOf} {blobs : List LookedAt} {drafts : List DraftOf} {images : ImagesOf}
     → IsStore old blobs drafts images → Moves old new → IsStore new blobs drafts images
@@ -183,6 +185,7 @@ moved {old} {new} {blobs} {drafts} {images} is m = record {
   roomy = record { rooms = λ lane. is.roomy.rooms lane ∙ sym (m.rooms lane); enough = is.roomy.enough; short = is.roomy.short };
   filled = is.filled;
   unbroken = m.broken ∙ is.unbroken;
+  steady = m.steady is.steady;
 }
 
 pub stays_moves : {old new : LedgerOf} → Stays old new → Moves old new
@@ -191,7 +194,13 @@ stays_moves s = record {
   stock = ap (λ (x : State). x.stock) s.state.rest;
   rooms = λ lane. ap (room_of lane) s.history;
   broken = ap (λ (x : State). x.broken) s.state.rest;
+  steady = λ are. subst AreOfMemory (sym s.history) are;
 }
+
+-- one event more, of memory
+pub steady_more : {old new : LedgerOf} {lane : ℕ} {act : Act} → Notes old lane act new → IsOfMemory (event_by lane act)
+    → AreOfMemory old.history → AreOfMemory new.history
+steady_more {old} {new} {lane} {act} n is are = subst AreOfMemory (sym n.history) (All-push IsOfMemory old.history (event_by lane act) are is)
 
 -- no act notes a write that failed
 none_breaks : (act : Act) → (footprint_of act).broken ≡ false
@@ -206,8 +215,8 @@ notes_unbroken {old} {new} {lane} {act} n =
 pub notes_moves : {old new : LedgerOf} {lane : ℕ} {act : Act} → Notes old lane act new
     → (next old.state (next_number old) lane act).stock ≡ old.state.stock
     → len_of (held_after_act (held (of_lane lane old.history)) (next_number old) lane act).claim ≡ room_of lane old.history
-    → Moves old new
-notes_moves {old} {new} {lane} {act} n stock room = record {
+    → IsOfMemory (event_by lane act) → Moves old new
+notes_moves {old} {new} {lane} {act} n stock room steady = record {
   holds = n.holds;
   stock = ap (λ (s : State). s.stock) n.state.rest ∙ stock;
   rooms = λ other. elim (cases_Bool (lane == other)) [
@@ -217,6 +226,7 @@ notes_moves {old} {new} {lane} {act} n stock room = record {
     | inr differs ↦ others_room old new lane act n other differs
   ];
   broken = notes_unbroken n;
+  steady = steady_more n steady;
 }
 
 same_claim : (a b : Option HeldClaim) → option_to_list a ≡ option_to_list b → a ≡ b
@@ -241,13 +251,14 @@ same_rooms {old} {new} a b claims = λ other.
     ∙ ap (λ (cs : List ClaimEntry). map claim_in (filter (λ (claim : ClaimEntry). claim.lane == other) cs)) claims
     ∙ sym (claim_there old other a)))
 
-pub tells_moves : {old new : LedgerOf} {lane : ℕ} {IsIts : ℕ → Event → Type 0} → Agrees old → Tells lane IsIts old new
+pub tells_moves : {old new : LedgerOf} {lane : ℕ} {IsIts : ℕ → Event → Type 0} → Agrees old → Tells lane (InMemory IsIts) old new
     → Moves old new
 tells_moves a t = record {
   holds = t.notes.holds;
   stock = t.stock;
   rooms = same_rooms a t.notes.holds t.claims;
   broken = notes_unbroken t.notes;
+  steady = steady_more t.notes t.its.steady;
 }
 
 -- an event that leaves the stock and the claims
@@ -303,14 +314,14 @@ either (Err e) on_ok on_err ok err = on_err err
 
 pub answered : {A E : Type 0} {old new : LedgerOf} {blobs : List LookedAt} {drafts : List DraftOf} {images : ImagesOf}
     (lane : ℕ) (IsIts : A → ℕ → Event → Type 0) (r : Result A E) → IsStore old blobs drafts images
-    → IfOk r (λ reply. Tells lane (IsIts reply) old new) → OnErr r (Stays old new) → IsStore new blobs drafts images
+    → IfOk r (λ reply. Tells lane (InMemory (IsIts reply)) old new) → OnErr r (Stays old new) → IsStore new blobs drafts images
 answered lane IsIts (Ok a) is ok err = moved is (tells_moves is.holds ok)
 answered lane IsIts (Err e) is ok err = moved is (stays_moves err)
 
 -- blobs were removed
 pub cleared : {A E : Type 0} {old new : LedgerOf} {blobs blobs' : List LookedAt} {drafts : List DraftOf} {images : ImagesOf}
     (lane : ℕ) (IsIts : A → ℕ → Event → Type 0) (r : Result A E) → IsStore old blobs drafts images
-    → IfOk r (λ reply. Clears lane (IsIts reply) old new) → OnErr r (Stays old new) → AreBytesOf blobs' new.state.stock
+    → IfOk r (λ reply. Clears lane (InMemory (IsIts reply)) old new) → OnErr r (Stays old new) → AreBytesOf blobs' new.state.stock
     → IsStore new blobs' drafts images
 cleared lane IsIts (Ok a) is ok err bytes = record {
   holds = ok.notes.holds;
@@ -322,23 +333,25 @@ cleared lane IsIts (Ok a) is ok err bytes = record {
   };
   filled = is.filled;
   unbroken = notes_unbroken ok.notes ∙ is.unbroken;
+  steady = steady_more ok.notes ok.its.steady is.steady;
 }
 cleared lane IsIts (Err e) is ok err bytes =
     let m = moved is (stays_moves err) in
-    record { holds = m.holds; stored = bytes; roomy = m.roomy; filled = m.filled; unbroken = m.unbroken }
+    record { holds = m.holds; stored = bytes; roomy = m.roomy; filled = m.filled; unbroken = m.unbroken; steady = m.steady }
 
 -- an event that gives its lane this room
 pub drafted : {old new : LedgerOf} {lane room : ℕ} {bytes : List ℕ} {act : Act} {blobs blobs' : List LookedAt}
     {drafts drafts' : List DraftOf} {images : ImagesOf} → IsStore old blobs drafts images → Notes old lane act new
     → AreBytesOf blobs' new.state.stock → Drafted lane room bytes drafts drafts'
     → room ≡ len_of (held_after_act (held (of_lane lane old.history)) (next_number old) lane act).claim
-    → length bytes ≤ room → room ≤ BYTES_LIMIT → IsStore new blobs' drafts' images
-drafted {old} {new} {lane} {room} {bytes} {act} is n stored d room_is few low = record {
+    → length bytes ≤ room → room ≤ BYTES_LIMIT → IsOfMemory (event_by lane act) → IsStore new blobs' drafts' images
+drafted {old} {new} {lane} {room} {bytes} {act} is n stored d room_is few low steady = record {
   holds = n.holds;
   stored = stored;
   roomy = have_room is.roomy d (room_is ∙ sym (own_room old new lane act n)) (others_room old new lane act n) few low;
   filled = is.filled;
   unbroken = notes_unbroken n ∙ is.unbroken;
+  steady = steady_more n steady is.steady;
 }
 
 -- nothing came, and the lane has this room
@@ -354,6 +367,7 @@ drafted_still {old} {new} {lane} {room} {bytes} is s d room_is few low =
       roomy = have_room is.roomy d (room_is ∙ sym (ap (room_of lane) s.history)) (λ other differs. ap (room_of other) s.history) few low;
       filled = m.filled;
       unbroken = m.unbroken;
+      steady = m.steady;
     }
 
 -- the bytes of what is stored, after an event that leaves the stock

@@ -13,6 +13,7 @@ use Rattle.store_model.specs.Acts.Copy.{copy_end}
 use Rattle.store_model.specs.Replies.{IsCopied}
 use Rattle.store_model.specs.Calls.{HasFileRoot}
 use Rattle.plain_ledger.specs.Ledgers.{LedgerOf, Stays, Tells}
+use Rattle.plain_desk.specs.Memory.{InMemory}
 use Rattle.plain_desk.specs.Stores.{ImagesOf, IsAppended, image_of}
 
 -- what comes of a file after this place, at most a piece
@@ -61,4 +62,5 @@ CopiedBy lane image dir file l l2 old new (copy.More have) =
 CopiedBy lane image dir file l l2 old new (copy.Whole len) =
     IsCopiedBy lane image dir file l l2 old new (copy.Whole len)
 CopiedBy lane image dir file l l2 old new copy.NoMemory = Stays l l2 × (new ≡ old)
-CopiedBy lane image dir file l l2 old new reply = Tells lane (IsCopied image dir file reply) l l2 × (new ≡ old)
+CopiedBy lane image dir file l l2 old new reply =
+    Tells lane (InMemory (IsCopied image dir file reply)) l l2 × (new ≡ old)

@@ -17,6 +17,7 @@ use Rattle.store_model.specs.declared.replies.StageReply.TheVariants as stage
 use Rattle.store_model.specs.Desk.{no_fillers}
 use Rattle.store_model.specs.Replies.{Acts, Looks, IsActivated, IsCopied, IsStaged}
 use Rattle.plain_ledger.specs.Ledgers.{LedgerOf, Stays, Tells}
+use Rattle.plain_desk.specs.Memory.{InMemory}
 use Rattle.plain_desk.specs.Stores.{ImagesOf}
 pub use Rattle.plain_drafts.specs.Images.{HaveSums, HaveSumsBefore, IsDifference}
 
@@ -41,7 +42,7 @@ IsCopiedAs end reply = (image : ImageKind) (dir : ℕ) (file : List ℕ) (number
 -- the event of `stage` came, or for want of memory none
 abbrev pub StagedBy : ℕ → ℕ → StageReply → LedgerOf → LedgerOf → Type 0
 StagedBy lane epoch stage.NoMemory old new = Stays old new
-StagedBy lane epoch reply old new = Tells lane (IsStaged epoch reply) old new
+StagedBy lane epoch reply old new = Tells lane (InMemory (IsStaged epoch reply)) old new
 
 -- ---- images
 

@@ -1,5 +1,5 @@
 -- A store, as contracts see it, and what a lane's desk at it is seen as.
-use Rattle.std.specs.Prelude.{All, Bool, drop, true, false, ◌⊎◌, ◌≡◌, ◌≢◌, ◌<◌, ◌≤◌, ℕ, ◌==◌, List, [], ◌∷◌, ◌++◌, length, Option, Some, None, IfSome, if◌then◌else◌}
+use Rattle.std.specs.Prelude.{All, Bool, drop, true, false, ◌⊎◌, ◌≡◌, ◌≢◌, ◌<◌, ◌≤◌, ◌&&◌, ℕ, ◌==◌, List, [], ◌∷◌, ◌++◌, length, Option, Some, None, IfSome, if◌then◌else◌}
 use Rattle.std.specs.List.{list_all}
 use Rattle.image_layout.specs.declared.ImageKind.{ImageKind}
 use Rattle.pkg_merkle.specs.declared.hasher.TheConstants.{BYTES_LIMIT}
@@ -36,6 +36,8 @@ use Rattle.plain_ledger.specs.Ledgers.{LedgerOf, Agrees, Notes, event_by, next_n
 pub use Rattle.plain_drafts.specs.Drafts.{DraftOf, Drafted, added, bytes_in, len_in, draft_of, draft_with}
 pub use Rattle.plain_drafts.specs.Drafts.{room_in, without_draft}
 pub use Rattle.plain_drafts.specs.Images.{ImagesOf, IsAppended, image_of}
+pub use Rattle.plain_desk.specs.Memory.{AreOfMemory, InMemory, IsOfMemory, is_of_memory}
+pub use Rattle.plain_desk.specs.Memory.{checks_in_memory, reads_in_memory}
 
 -- what contracts see of a store
 pub record StoreOf : Type 0 where
@@ -55,19 +57,32 @@ view_of tie lane s = record {
   fillers = s.images.fillers;
 }
 
--- What came to the history is the lane's.
+-- What came to the history is the lane's, and tells of no disk.
 pub record AddsOwn (lane : ℕ) (old new : List Event) : Type 0 where
   pub more : List Event
   pub own : All (λ (e : Event). e.lane ≡ lane) more
+  pub steady : AreOfMemory more
   pub history : new ≡ old ++ more
 
--- each event behind the first so many is the lane's
+-- each event behind the first so many is the lane's, and tells of no disk
 abbrev pub are_own : ℕ → ℕ → List Event → Bool
-are_own lane began history = list_all (λ (e : Event). e.lane == lane) (drop began history)
+are_own lane began history =
+    list_all (λ (e : Event). e.lane == lane) (drop began history) && list_all is_of_memory (drop began history)
 
 -- Each other lane's events are what they were.
 abbrev pub LeavesOthers : ℕ → List Event → List Event → Type 0
 LeavesOthers lane old new = (other : ℕ) → lane ≢ other → of_lane other new ≡ of_lane other old
+
+-- Each other lane has the room that it had, and has put the same bytes there.
+abbrev pub LeavesDrafts : ℕ → List DraftOf → List DraftOf → Type 0
+LeavesDrafts lane old new =
+    (other : ℕ) → lane ≢ other
+    → (room_in new other ≡ room_in old other) × (draft_of new other ≡ draft_of old other)
+
+-- The call was the lane's: what came is its own, and what other lanes have put stays.
+pub record IsOwnCall (lane : ℕ) (old new : StoreOf) : Type 0 where
+  pub events : AddsOwn lane old.history new.history
+  pub drafts : LeavesDrafts lane old.drafts new.drafts
 
 -- the bytes that the lane's desk stands for
 abbrev pub kept_for : ℕ → StoreOf → Keeping → List ℕ → Type 0
@@ -99,13 +114,15 @@ abbrev pub AreFilled : ImagesOf → Type 0
 AreFilled s = (image : ImageKind) → IfSome (filler_of s.fillers image)
     (λ root. (place : ℕ) → place < length (image_of s image) → HasByteOf root (image_of s image) place)
 
--- The ledger's history is legal and its state the one after it. The bytes are those of its stock. No write failed.
+-- The ledger's history is legal and its state the one after it. The bytes are those of its stock. No write failed,
+-- and no event tells of a disk.
 pub record IsStore (l : LedgerOf) (blobs : List LookedAt) (drafts : List DraftOf) (images : ImagesOf) : Type 0 where
   pub holds : Agrees l
   pub stored : AreBytesOf blobs l.state.stock
   pub roomy : HaveRoom drafts l.history
   pub filled : AreFilled images
   pub unbroken : l.state.broken ≡ None
+  pub steady : AreOfMemory l.history
 
 -- these blobs have no bytes any more, and the others have theirs
 abbrev pub AreRemoved : List Root → List LookedAt → List LookedAt → Type 0

@@ -11,7 +11,7 @@ ghost use Rattle.store_model.specs.Acts.Begin.{begin_answer, has_to_read};
 ghost use Rattle.plain_stock.specs.Contents.{AreBytesOf};
 ghost use Rattle.plain_state.specs.Learning.{seen_of};
 ghost use Rattle.plain_ledger.specs.Ledgers.{Agrees, Stays, Tells};
-ghost use Rattle.plain_desk.specs.Stores.{AddsOwn, view_of, kept_for, IsRefusal, IsBegunAs};
+ghost use Rattle.plain_desk.specs.Stores.{IsOwnCall, InMemory, view_of, kept_for, IsRefusal, IsBegunAs};
 
 use crate::store::Store;
 use package_indexes::Choice;
@@ -31,7 +31,7 @@ impl Store {
             → Begins path.now choice result (view_of tie lane self.old) (view_of tie lane self.new) }
         ensures kept { Keeps (kept_for lane self.old) (kept_for lane self.new) }
         ensures images { self.new.images ≡ self.old.images }
-        ensures own { AddsOwn lane self.old.history self.new.history }
+        ensures own { IsOwnCall lane self.old self.new }
     {
         match begin(
             self.alloc,
@@ -53,7 +53,7 @@ impl Store {
         ensures event { (tie : List ℕ) → Wants ticket result (view_of tie lane self.old) (view_of tie lane self.new) }
         ensures kept { KeepsAtWant result (kept_for lane self.old) (kept_for lane self.new) }
         ensures images { self.new.images ≡ self.old.images }
-        ensures own { AddsOwn lane self.old.history self.new.history }
+        ensures own { IsOwnCall lane self.old self.new }
     {
         match self.ledger.state().want_answer(ticket.number) {
             Some(WantEnd::Failed(cause)) => {
@@ -79,7 +79,7 @@ impl Store {
             → Does (view_of tie lane self.old) (view_of tie lane self.new) (IsGivenUp ticket.number) }
         ensures kept { Keeps (kept_for lane self.old) (kept_for lane self.new) }
         ensures images { self.new.images ≡ self.old.images }
-        ensures own { AddsOwn lane self.old.history self.new.history }
+        ensures own { IsOwnCall lane self.old self.new }
     {
         self.ledger.give_up(lane, ticket.number);
     }
@@ -95,7 +95,7 @@ fn begin(
 ) -> Result<BeginReply, AllocError>
     requires agrees { Agrees ledger.old }
     requires bytes { AreBytesOf contents.now ledger.old.state.stock }
-    ensures ok { IfOk result (λ reply. Tells lane (IsBegun path.now choice reply) ledger.old ledger.new) }
+    ensures ok { IfOk result (λ reply. Tells lane (InMemory (IsBegun path.now choice reply)) ledger.old ledger.new) }
     ensures err { OnErr result (Stays ledger.old ledger.new) }
 {
     let asked = path.try_copy(alloc)?;
@@ -117,7 +117,7 @@ fn arrive(
     requires agrees { Agrees ledger.old }
     requires bytes { AreBytesOf contents.now ledger.old.state.stock }
     requires answer { begin_answer ledger.old.state path choice ≡ begun.Ticket root }
-    ensures ok { IfOk result (λ reply. Tells lane (IsBegun path choice reply) ledger.old ledger.new) }
+    ensures ok { IfOk result (λ reply. Tells lane (InMemory (IsBegun path choice reply)) ledger.old ledger.new) }
     ensures err { OnErr result (Stays ledger.old ledger.new) }
 {
     let meta = to_read(alloc, ledger.state(), contents, &root)?;
@@ -136,7 +136,7 @@ fn refuse(
 ) -> Result<BeginReply, AllocError>
     requires answer { reply ≡ begin_answer ledger.old.state path choice }
     requires none { IsRefusal reply }
-    ensures ok { IfOk result (λ reply. Tells lane (IsBegun path choice reply) ledger.old ledger.new) }
+    ensures ok { IfOk result (λ reply. Tells lane (InMemory (IsBegun path choice reply)) ledger.old ledger.new) }
     ensures err { OnErr result (Stays ledger.old ledger.new) }
 {
     let seen = Looked::make(Vec::new(alloc));

@@ -11,7 +11,7 @@ ghost use Rattle.store_model.specs.Replies.{IsCopied};
 ghost use Rattle.store_model.specs.Calls.{Copies, HoldsStage, IsWholeFile, KeepsAtCopy};
 ghost use Rattle.plain_stock.specs.Contents.{AreBytesOf};
 ghost use Rattle.plain_ledger.specs.Ledgers.{Agrees, Stays, Tells};
-ghost use Rattle.plain_desk.specs.Stores.{AddsOwn, IsFileThere, kept_for, view_of};
+ghost use Rattle.plain_desk.specs.Stores.{IsOwnCall, InMemory, IsFileThere, kept_for, view_of};
 ghost use Rattle.plain_desk.specs.Filling.{IsCopiedAs};
 ghost use Rattle.plain_desk.specs.Copying.{CopiedBy, IsCopiedFile, IsCopiedFrom, next_part};
 
@@ -35,7 +35,7 @@ impl Store {
         ensures kept { KeepsAtCopy (state_of (view_of [] lane self.new)) lane image dir.number file.now
             result self.old.images.fillers self.new.images.fillers (kept_for lane self.old) (kept_for lane self.new) }
         ensures whole { IsWholeFile image result self.new.images.fillers (kept_for lane self.new) }
-        ensures own { AddsOwn lane self.old.history self.new.history }
+        ensures own { IsOwnCall lane self.old self.new }
     {
         let Store {
             alloc,
@@ -109,7 +109,8 @@ fn no_copy(
     requires agrees { Agrees ledger.old }
     requires stage { IsStageOf ledger.old.state lane Filling }
     requires end { copy_end ledger.old.state lane image dir file.now ≡ Some end }
-    ensures ok { IfOk result (λ reply. Tells lane (IsCopied image dir file.now reply) ledger.old ledger.new) }
+    ensures ok { IfOk result (λ reply.
+        Tells lane (InMemory (IsCopied image dir file.now reply)) ledger.old ledger.new) }
     ensures err { OnErr result (Stays ledger.old ledger.new) }
 {
     let file = file.try_copy(alloc)?;

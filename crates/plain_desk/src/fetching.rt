@@ -14,7 +14,7 @@ ghost use Rattle.store_model.specs.Replies.{IsMissed};
 ghost use Rattle.store_model.specs.Calls.{MakesRoom, KeepsAtRoom, Puts, KeepsAtPut, Lands, KeepsAtLand, HoldsNewClaim, HoldsRoom, HoldsClaim, room_by};
 ghost use Rattle.plain_stock.specs.Contents.{AreBytesOf};
 ghost use Rattle.plain_ledger.specs.Ledgers.{Agrees, Notes, Stays};
-ghost use Rattle.plain_desk.specs.Stores.{AddsOwn, Drafted, IsLandingEnd, IsLandedAs, HasLanded, draft_of, room_after, room_in, view_of, kept_for};
+ghost use Rattle.plain_desk.specs.Stores.{IsOwnCall, Drafted, IsLandingEnd, IsLandedAs, HasLanded, draft_of, room_after, room_in, view_of, kept_for};
 
 use crate::asking::{copied, looked};
 use crate::store::Store;
@@ -38,7 +38,7 @@ impl Store {
             → MakesRoom claim len result (view_of tie lane self.old) (view_of tie lane self.new) }
         ensures kept { KeepsAtRoom result (kept_for lane self.old) (kept_for lane self.new) }
         ensures images { self.new.images ≡ self.old.images }
-        ensures own { AddsOwn lane self.old.history self.new.history }
+        ensures own { IsOwnCall lane self.old self.new }
     {
         match room(
             self.alloc,
@@ -61,7 +61,7 @@ impl Store {
         ensures kept { KeepsAtPut (room_by (view_of [] lane self.old)) bytes.now result
             (kept_for lane self.old) (kept_for lane self.new) }
         ensures images { self.new.images ≡ self.old.images }
-        ensures own { AddsOwn lane self.old.history self.new.history }
+        ensures own { IsOwnCall lane self.old self.new }
     {
         match put(&mut self.ledger, &mut self.drafts, lane, claim.root, bytes) {
             None => PutReply::Taken(claim),
@@ -77,7 +77,7 @@ impl Store {
         ensures kept { KeepsAtLand claim.root (room_by (view_of [] lane self.old)) result
             (kept_for lane self.old) (kept_for lane self.new) }
         ensures images { self.new.images ≡ self.old.images }
-        ensures own { AddsOwn lane self.old.history self.new.history }
+        ensures own { IsOwnCall lane self.old self.new }
     {
         match land(
             self.alloc,
@@ -100,7 +100,7 @@ impl Store {
             → Does (view_of tie lane self.old) (view_of tie lane self.new) (IsMissed claim.root why) }
         ensures kept { KeepsImages (kept_for lane self.old) (kept_for lane self.new) }
         ensures images { self.new.images ≡ self.old.images }
-        ensures own { AddsOwn lane self.old.history self.new.history }
+        ensures own { IsOwnCall lane self.old self.new }
     {
         self.ledger.miss(lane, claim.root, why);
         self.drafts.end(lane);

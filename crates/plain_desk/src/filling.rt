@@ -11,7 +11,7 @@ ghost use Rattle.store_model.specs.Acts.Stage.{stage_answer};
 ghost use Rattle.plain_stock.specs.Contents.{AreBytesOf};
 ghost use Rattle.plain_state.specs.Judged.{IsReadAll};
 ghost use Rattle.plain_ledger.specs.Ledgers.{Stays, Tells};
-ghost use Rattle.plain_desk.specs.Stores.{AddsOwn, view_of, kept_for};
+ghost use Rattle.plain_desk.specs.Stores.{IsOwnCall, InMemory, view_of, kept_for};
 ghost use Rattle.plain_desk.specs.Filling.{IsUnstaged, IsStagedAs, IsActivatedAs, IsSealedOf, StagedBy, images_at_stage};
 
 use crate::store::Store;
@@ -30,7 +30,7 @@ impl Store {
         ensures event { (tie : List ℕ) → Stages epoch result (view_of tie lane self.old) (view_of tie lane self.new) }
         ensures kept { KeepsAtStage result (kept_for lane self.old) (kept_for lane self.new) }
         ensures fillers { self.new.images.fillers ≡ fillers_at_stage result self.old.images.fillers }
-        ensures own { AddsOwn lane self.old.history self.new.history }
+        ensures own { IsOwnCall lane self.old self.new }
     {
         let reply = stage(&mut self.ledger, lane, epoch);
         empty_at_turn(&mut self.images, &reply);
@@ -43,7 +43,7 @@ impl Store {
         ensures event { (tie : List ℕ) → Seals sys.now result (view_of tie lane self.old) (view_of tie lane self.new) }
         ensures kept { KeepsAtSeal sys.now result (kept_for lane self.old) (kept_for lane self.new) }
         ensures images { self.new.images ≡ self.old.images }
-        ensures own { AddsOwn lane self.old.history self.new.history }
+        ensures own { IsOwnCall lane self.old self.new }
     {
         match seal(&mut self.ledger, &self.images, lane, sys) {
             Ok(reply) => reply,
@@ -57,7 +57,7 @@ impl Store {
         ensures event { (tie : List ℕ) → Activates result (view_of tie lane self.old) (view_of tie lane self.new) }
         ensures kept { Keeps (kept_for lane self.old) (kept_for lane self.new) }
         ensures images { self.new.images ≡ self.old.images }
-        ensures own { AddsOwn lane self.old.history self.new.history }
+        ensures own { IsOwnCall lane self.old self.new }
     {
         match activate(&mut self.ledger, &self.contents, lane) {
             Ok(reply) => reply,
@@ -71,7 +71,7 @@ impl Store {
         ensures event { (tie : List ℕ) → Does (view_of tie lane self.old) (view_of tie lane self.new) HasLeftStage }
         ensures kept { Keeps (kept_for lane self.old) (kept_for lane self.new) }
         ensures images { self.new.images ≡ self.old.images }
-        ensures own { AddsOwn lane self.old.history self.new.history }
+        ensures own { IsOwnCall lane self.old self.new }
     {
         self.ledger.leave_stage(lane);
     }
@@ -81,7 +81,7 @@ impl Store {
         ensures event { (tie : List ℕ) → Commits result (view_of tie lane self.old) (view_of tie lane self.new) }
         ensures kept { Keeps (kept_for lane self.old) (kept_for lane self.new) }
         ensures images { self.new.images ≡ self.old.images }
-        ensures own { AddsOwn lane self.old.history self.new.history }
+        ensures own { IsOwnCall lane self.old self.new }
     {
         match commit(&mut self.ledger, lane) {
             Ok(reply) => reply,
@@ -100,7 +100,7 @@ fn stage(ledger: &mut Ledger, lane: u32, epoch: u64) -> StageReply
 }
 
 fn try_stage(ledger: &mut Ledger, lane: u32, epoch: u64) -> Result<StageReply, AllocError>
-    ensures ok { IfOk result (λ reply. Tells lane (IsStaged epoch reply) ledger.old ledger.new) }
+    ensures ok { IfOk result (λ reply. Tells lane (InMemory (IsStaged epoch reply)) ledger.old ledger.new) }
     ensures err { OnErr result (Stays ledger.old ledger.new) }
 {
     match ledger.state().stage_answer(epoch) {
@@ -120,7 +120,7 @@ fn note_unstaged(
 ) -> Result<StageReply, AllocError>
     requires answer { reply ≡ stage_answer ledger.old.state epoch }
     requires none { IsUnstaged reply }
-    ensures ok { IfOk result (λ told. Tells lane (IsStaged epoch told) ledger.old ledger.new) }
+    ensures ok { IfOk result (λ told. Tells lane (InMemory (IsStaged epoch told)) ledger.old ledger.new) }
     ensures err { OnErr result (Stays ledger.old ledger.new) }
 {
     ledger.note(lane, Act::Stage { epoch, reply })?;
@@ -151,7 +151,7 @@ fn empty_at_turn(images: &mut Images, reply: &StageReply)
 
 fn seal(ledger: &mut Ledger, images: &Images, lane: u32, sys: &Sys) -> Result<SealReply, AllocError>
     requires { IsStageOf ledger.old.state lane Filling }
-    ensures ok { IfOk result (λ reply. Tells lane (IsSealed sys.now reply) ledger.old ledger.new) }
+    ensures ok { IfOk result (λ reply. Tells lane (InMemory (IsSealed sys.now reply)) ledger.old ledger.new) }
     ensures sums { IfOk result (IsSealedOf sys.now images.now) }
     ensures err { OnErr result (Stays ledger.old ledger.new) }
 {
@@ -175,7 +175,7 @@ fn activate(
 ) -> Result<ActivateReply, AllocError>
     requires stage { (sys : SysOf) × IsStageOf ledger.old.state lane (Sealed sys) }
     requires bytes { AreBytesOf contents.now ledger.old.state.stock }
-    ensures ok { IfOk result (λ reply. Tells lane (IsActivated reply) ledger.old ledger.new) }
+    ensures ok { IfOk result (λ reply. Tells lane (InMemory (IsActivated reply)) ledger.old ledger.new) }
     ensures err { OnErr result (Stays ledger.old ledger.new) }
 {
     let Some(sys) = ledger.state().sealed() else {
@@ -199,7 +199,7 @@ fn activated(end: ActivateEnd) -> ActivateReply
 }
 
 fn commit(ledger: &mut Ledger, lane: u32) -> Result<CommitReply, AllocError>
-    ensures ok { IfOk result (λ reply. Tells lane (IsCommitted reply) ledger.old ledger.new) }
+    ensures ok { IfOk result (λ reply. Tells lane (InMemory (IsCommitted reply)) ledger.old ledger.new) }
     ensures err { OnErr result (Stays ledger.old ledger.new) }
 {
     if ledger.state().is_pending() {

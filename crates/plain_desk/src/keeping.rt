@@ -7,7 +7,7 @@ ghost use Rattle.store_model.specs.Calls.{Collects, Retains};
 ghost use Rattle.store_model.specs.Replies.{IsCollected, IsRetained};
 ghost use Rattle.plain_stock.specs.Contents.{AreBytesOf};
 ghost use Rattle.plain_ledger.specs.Ledgers.{Agrees, Stays, Tells};
-ghost use Rattle.plain_desk.specs.Stores.{AddsOwn, AreRemoved, Clears, view_of, kept_for};
+ghost use Rattle.plain_desk.specs.Stores.{IsOwnCall, InMemory, AreRemoved, Clears, view_of, kept_for};
 
 use crate::store::Store;
 use pkg_names::{Root, Roots};
@@ -22,7 +22,7 @@ impl Store {
         ensures event { (tie : List ℕ) → Collects result (view_of tie lane self.old) (view_of tie lane self.new) }
         ensures kept { Keeps (kept_for lane self.old) (kept_for lane self.new) }
         ensures images { self.new.images ≡ self.old.images }
-        ensures own { AddsOwn lane self.old.history self.new.history }
+        ensures own { IsOwnCall lane self.old self.new }
     {
         match collect(self.alloc, &mut self.ledger, &mut self.contents, lane) {
             Ok(reply) => reply,
@@ -37,7 +37,7 @@ impl Store {
             → Retains roots.now result (view_of tie lane self.old) (view_of tie lane self.new) }
         ensures kept { Keeps (kept_for lane self.old) (kept_for lane self.new) }
         ensures images { self.new.images ≡ self.old.images }
-        ensures own { AddsOwn lane self.old.history self.new.history }
+        ensures own { IsOwnCall lane self.old self.new }
     {
         match retain(self.alloc, &mut self.ledger, &self.contents, lane, roots) {
             Ok(reply) => reply,
@@ -54,7 +54,7 @@ fn collect(
 ) -> Result<CollectReply, AllocError>
     requires agrees { Agrees ledger.old }
     requires bytes { AreBytesOf contents.old ledger.old.state.stock }
-    ensures ok { IfOk result (λ reply. Clears lane (IsCollected reply) ledger.old ledger.new) }
+    ensures ok { IfOk result (λ reply. Clears lane (InMemory (IsCollected reply)) ledger.old ledger.new) }
     ensures err { OnErr result (Stays ledger.old ledger.new) }
     ensures bytes { AreBytesOf contents.new ledger.new.state.stock }
 {
@@ -85,7 +85,7 @@ fn retain(
     requires agrees { Agrees ledger.old }
     requires bytes { AreBytesOf contents.now ledger.old.state.stock }
     ensures ok { IfOk result (λ reply.
-        Tells lane (IsRetained roots.now (length roots.now) reply) ledger.old ledger.new) }
+        Tells lane (InMemory (IsRetained roots.now (length roots.now) reply)) ledger.old ledger.new) }
     ensures err { OnErr result (Stays ledger.old ledger.new) }
 {
     let kept = Roots::make(Vec::from_slice(alloc, roots)?);

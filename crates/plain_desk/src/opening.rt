@@ -4,6 +4,7 @@ ghost use Rattle.std.specs.Prelude.{◌≡◌, IfOk};
 ghost use Rattle.store_model.specs.History.{IsLegal, after};
 ghost use Rattle.store_model.specs.State.{durable};
 ghost use Rattle.plain_stock.specs.Contents.{AreBytesOf};
+ghost use Rattle.plain_desk.specs.Memory.{AreOfMemory};
 ghost use Rattle.plain_desk.specs.Opening.{Opens};
 
 use crate::store::Store;
@@ -71,10 +72,11 @@ impl Store {
         }
     }
 
-    /// The history, which is legal from what lasted.
+    /// The history, which is legal from what lasted, and tells of no disk.
     pub fn into_history(self) -> Vec<Event>
         ensures history { result.items ≡ self.history }
         ensures legal { IsLegal self.origin self.history }
+        ensures steady { AreOfMemory self.history }
     {
         self.ledger.into_parts().0
     }
@@ -83,6 +85,7 @@ impl Store {
     pub fn into_parts(self) -> Parts
         ensures history { result.history.items ≡ self.history }
         ensures legal { IsLegal self.origin self.history }
+        ensures steady { AreOfMemory self.history }
         ensures standing { result.standing ≡ durable (after self.origin self.history) }
         ensures bytes { AreBytesOf result.contents result.standing.stock }
         ensures images { result.images ≡ self.images }

@@ -10,7 +10,7 @@ ghost use Rattle.store_model.specs.Acts.Read.{IsDueRead, IsReadOfInner};
 ghost use Rattle.store_model.specs.Acts.Check.{IsDueCheck};
 ghost use Rattle.plain_stock.specs.Contents.{AreBytesOf};
 ghost use Rattle.plain_ledger.specs.Ledgers.{Agrees, Stays, Tells};
-ghost use Rattle.plain_desk.specs.Stores.{AddsOwn, view_of, kept_for, IsFileThere, IsReadAs, IsCheckedAs};
+ghost use Rattle.plain_desk.specs.Stores.{IsOwnCall, InMemory, checks_in_memory, reads_in_memory, view_of, kept_for, IsFileThere, IsReadAs, IsCheckedAs};
 
 use crate::store::Store;
 use pkg_merkle::{BYTES_LIMIT, root_of};
@@ -27,7 +27,7 @@ impl Store {
         ensures event { (tie : List ℕ) → Opens path.now result (view_of tie lane self.old) (view_of tie lane self.new) }
         ensures kept { Keeps (kept_for lane self.old) (kept_for lane self.new) }
         ensures images { self.new.images ≡ self.old.images }
-        ensures own { AddsOwn lane self.old.history self.new.history }
+        ensures own { IsOwnCall lane self.old self.new }
     {
         match open(self.alloc, &mut self.ledger, lane, path) {
             Ok(reply) => reply,
@@ -41,7 +41,7 @@ impl Store {
             → Reads dir.number file.now result (view_of tie lane self.old) (view_of tie lane self.new) }
         ensures kept { Keeps (kept_for lane self.old) (kept_for lane self.new) }
         ensures images { self.new.images ≡ self.old.images }
-        ensures own { AddsOwn lane self.old.history self.new.history }
+        ensures own { IsOwnCall lane self.old self.new }
     {
         match read(
             self.alloc,
@@ -62,7 +62,7 @@ impl Store {
             → Checks dir.number file.now result (view_of tie lane self.old) (view_of tie lane self.new) }
         ensures kept { Keeps (kept_for lane self.old) (kept_for lane self.new) }
         ensures images { self.new.images ≡ self.old.images }
-        ensures own { AddsOwn lane self.old.history self.new.history }
+        ensures own { IsOwnCall lane self.old self.new }
     {
         match check(self.alloc, &mut self.ledger, lane, dir.number, file) {
             Ok(reply) => reply,
@@ -78,7 +78,7 @@ fn open(
     path: &PackagePath,
 ) -> Result<OpenReply, AllocError>
     requires { Agrees ledger.old }
-    ensures ok { IfOk result (λ reply. Tells lane (IsOpened path.now reply) ledger.old ledger.new) }
+    ensures ok { IfOk result (λ reply. Tells lane (InMemory (IsOpened path.now reply)) ledger.old ledger.new) }
     ensures err { OnErr result (Stays ledger.old ledger.new) }
 {
     let asked = path.try_copy(alloc)?;
@@ -110,7 +110,7 @@ fn read(
 ) -> Result<ReadReply, AllocError>
     requires agrees { Agrees ledger.old }
     requires bytes { AreBytesOf contents.now ledger.old.state.stock }
-    ensures ok { IfOk result (λ reply. Tells lane (IsRead dir file.now reply) ledger.old ledger.new) }
+    ensures ok { IfOk result (λ reply. Tells lane (InMemory (IsRead dir file.now reply)) ledger.old ledger.new) }
     ensures err { OnErr result (Stays ledger.old ledger.new) }
 {
     let asked = file.try_copy(alloc)?;
@@ -138,7 +138,8 @@ fn read_end(
 ) -> Result<ReadEnd, AllocError>
     requires bytes { AreBytesOf contents.now state.now.stock }
     requires there { IsFileThere state.now lane dir file.now }
-    ensures { IfOk result (λ end. IsDueRead state.now lane dir file.now end) }
+    ensures due { IfOk result (λ end. IsDueRead state.now lane dir file.now end) }
+    ensures steady { IfOk result (λ end. reads_in_memory end ≡ true) }
 {
     match state.found(lane, dir, file) {
         FileAt::NotOpen => Ok(ReadEnd::BadDir),
@@ -163,7 +164,8 @@ pub(crate) fn stored_bytes<'a>(state: &State, contents: &'a Contents, root: &Roo
 
 // The bytes, if they are few enough.
 fn whole(alloc: Global, bytes: &[u8]) -> Result<ReadEnd, AllocError>
-    ensures { IfOk result (λ end. IsReadOfInner bytes.now end) }
+    ensures due { IfOk result (λ end. IsReadOfInner bytes.now end) }
+    ensures steady { IfOk result (λ end. reads_in_memory end ≡ true) }
 {
     if bytes.len() > READ_LIMIT {
         return Ok(ReadEnd::TooLong {
@@ -197,7 +199,7 @@ fn check(
     file: &FilePath,
 ) -> Result<CheckReply, AllocError>
     requires { Agrees ledger.old }
-    ensures ok { IfOk result (λ reply. Tells lane (IsChecked dir file.now reply) ledger.old ledger.new) }
+    ensures ok { IfOk result (λ reply. Tells lane (InMemory (IsChecked dir file.now reply)) ledger.old ledger.new) }
     ensures err { OnErr result (Stays ledger.old ledger.new) }
 {
     let asked = file.try_copy(alloc)?;
@@ -216,7 +218,8 @@ fn check(
 // A stored blob has its root and its length.
 fn check_end(state: &State, lane: u32, dir: u64, file: &FilePath) -> Result<CheckEnd, AllocError>
     requires { IsFileThere state.now lane dir file.now }
-    ensures { IfOk result (λ end. IsDueCheck state.now lane dir file.now end) }
+    ensures due { IfOk result (λ end. IsDueCheck state.now lane dir file.now end) }
+    ensures steady { IfOk result (λ end. checks_in_memory end ≡ true) }
 {
     match state.found(lane, dir, file) {
         FileAt::NotOpen => Ok(CheckEnd::BadDir),

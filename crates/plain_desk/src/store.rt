@@ -3,7 +3,7 @@
 ghost use Rattle.std.specs.Prelude.{◌≡◌, List, ℕ, length};
 ghost use Rattle.store_model.specs.Desk.{Keeps, Rests};
 ghost use Rattle.store_model.specs.Calls.{Closes, Rejects};
-ghost use Rattle.plain_desk.specs.Stores.{AddsOwn, view_of, kept_for};
+ghost use Rattle.plain_desk.specs.Stores.{IsOwnCall, view_of, kept_for};
 
 use plain_drafts::{Drafts, Images};
 use plain_ledger::Ledger;
@@ -45,7 +45,7 @@ impl Store {
             → Rejects file why result (view_of tie lane self.old) (view_of tie lane self.new) }
         ensures kept { Keeps (kept_for lane self.old) (kept_for lane self.new) }
         ensures images { self.new.images ≡ self.old.images }
-        ensures own { AddsOwn lane self.old.history self.new.history }
+        ensures own { IsOwnCall lane self.old self.new }
     {
         match self.ledger.note(lane, Act::Reject { file, why }) {
             Ok(()) => RejectReply::Noted,
@@ -59,7 +59,7 @@ impl Store {
             → Closes dir.number result (view_of tie lane self.old) (view_of tie lane self.new) }
         ensures kept { Keeps (kept_for lane self.old) (kept_for lane self.new) }
         ensures images { self.new.images ≡ self.old.images }
-        ensures own { AddsOwn lane self.old.history self.new.history }
+        ensures own { IsOwnCall lane self.old self.new }
     {
         match self.ledger.close(lane, dir.number) {
             Ok(true) => CloseReply::Closed,

@@ -1,5 +1,5 @@
 -- The images of the slot that an update fills.
-use Rattle.std.specs.Prelude.{◌≡◌, ◌≢◌, ℕ, List, [], ◌++◌, length, None}
+use Rattle.std.specs.Prelude.{◌≡◌, ◌≢◌, ℕ, List, ◌++◌, length}
 use Rattle.image_layout.specs.declared.ImageKind.{ImageKind}
 use Rattle.image_layout.specs.declared.ImageKind.TheVariants as images
 use Rattle.image_layout.specs.declared.Sys.{Sys}

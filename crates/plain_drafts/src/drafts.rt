@@ -12,19 +12,20 @@ use std::marker::Model;
 #[derive(Drop)]
 struct Draft {
     lane: u32,
-    buffer: Vec<u8>,
-    filled: usize,
+    room: usize,
+    bytes: Vec<u8>,
 }
 
 impl Model for Draft {
-    ghost use Rattle.std.specs.Prelude.{◌≤◌, take, vec_len};
+    ghost use Rattle.std.specs.Prelude.{◌≤◌, vec_capacity, vec_len};
     ghost use Rattle.plain_drafts.specs.Drafts.{DraftOf};
 
     ghost Value = { DraftOf };
 
-    ghost view = { λ d. record { lane = d.lane; room = vec_len d.buffer; bytes = take d.filled d.buffer.items } };
+    ghost view = { λ d. record { lane = d.lane; room = d.room; bytes = d.bytes.items } };
 
-    ghost invariant = { λ d. d.filled ≤ vec_len d.buffer };
+    // Bytes within the room need no more memory.
+    ghost invariant = { λ d. (vec_len d.bytes ≤ d.room) × (d.room ≤ vec_capacity d.bytes) };
 }
 
 /// The drafts of all lanes that have room for a blob.
@@ -147,43 +148,36 @@ impl Draft {
     fn make(alloc: Global, lane: u32, room: usize) -> Result<Draft, AllocError>
         ensures { IfOk result (λ draft. draft ≡ record { lane = lane; room = room; bytes = [] }) }
     {
-        let buffer = vec![in alloc; 0; room]?;
-        Ok(Draft {
-            lane,
-            buffer,
-            filled: 0,
-        })
+        let bytes = Vec::with_capacity(alloc, room)?;
+        Ok(Draft { lane, room, bytes })
     }
 
     fn bytes(&self) -> &[u8]
         ensures { result.now ≡ self.now.bytes }
     {
-        &self.buffer[..self.filled]
+        &self.bytes
     }
 
-    // The bytes that were put, without the rest of the room.
+    // The bytes that were put.
     fn into_bytes(self) -> Bytes
         ensures { result ≡ self.bytes }
     {
-        let mut bytes = self.buffer;
-        bytes.truncate(self.filled);
-        Bytes::make(bytes)
+        Bytes::make(self.bytes)
     }
 
     fn room(&self) -> usize
         ensures { result ≡ self.now.room }
     {
-        self.buffer.len()
+        self.room
     }
 
     // The bytes come behind those that are there, if the draft is the lane's and has room for them.
     fn add(&mut self, lane: u32, bytes: &[u8])
         ensures { self.new ≡ added lane bytes.now self.old }
     {
-        if self.lane == lane && bytes.len() <= self.buffer.len() - self.filled {
-            let end = self.filled + bytes.len();
-            self.buffer[self.filled..end].copy_from_slice(bytes);
-            self.filled = end;
+        if self.lane == lane && bytes.len() <= self.room - self.bytes.len() {
+            // It fits, so no memory is wanting.
+            let _ = self.bytes.extend_from_slice(bytes);
         }
     }
 }

@@ -1,5 +1,6 @@
 mod Counts
 mod Ended
+mod Faults
 mod Fine
 mod Gathered
 mod Inner

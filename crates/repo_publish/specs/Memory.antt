@@ -9,11 +9,10 @@ use Rattle.repo_source.specs.declared.file.RepoFile.{RepoFile}
 use Rattle.repo_publish.specs.declared.tree.TreeReply.{TreeReply}
 use Rattle.repo_publish.specs.declared.tree.TreeReply.TheVariants as trees
 use Rattle.repo_publish.specs.declared.post.PostListing.{PostListing}
-use Rattle.repo_publish.specs.declared.post.PostListing.TheVariants as listings
 use Rattle.repo_publish.specs.declared.post.PostReply.{PostReply}
 use Rattle.repo_publish.specs.declared.post.PostReply.TheVariants as posts
 use Rattle.repo_publish.specs.Lists.{put_in}
-use Rattle.repo_publish.specs.Post.{file_of}
+use Rattle.repo_publish.specs.Post.{file_of, listing_failed}
 
 -- the files that are left; the calls so far, of which the listed ones fail; how often it failed
 pub record TreeInMemory : Type 0 where
@@ -42,16 +41,6 @@ after_next trees.NoMemory tree = record tree { calls = one_more tree.calls }
 abbrev pub counted : Bool → PostInMemory → PostInMemory
 counted false post = record post { calls = one_more post.calls }
 counted true post = record post { calls = one_more post.calls; faults = one_more post.faults }
-
-abbrev pub listing_failed : PostListing → Bool
-listing_failed (listings.Have list) = false
-listing_failed listings.Failed = true
-listing_failed listings.NoMemory = false
-
-abbrev pub post_failed : PostReply → Bool
-post_failed posts.Posted = false
-post_failed posts.Failed = true
-post_failed posts.NoMemory = false
 
 -- a blob in the place of the first one under its root, or last
 abbrev pub put_blob : Root → List ℕ → List RepoFile → List RepoFile

@@ -10,6 +10,8 @@ use Rattle.repo_source.specs.declared.file.RepoFile.{RepoFile}
 use Rattle.repo_source.specs.Repo.{file_under}
 use Rattle.repo_publish.specs.declared.post.PostListing.{PostListing}
 use Rattle.repo_publish.specs.declared.post.PostListing.TheVariants as listings
+use Rattle.repo_publish.specs.declared.post.PostReply.{PostReply}
+use Rattle.repo_publish.specs.declared.post.PostReply.TheVariants as posts
 
 -- a blob as a file of a repository: with its length and its bytes
 abbrev pub file_of : Root → List ℕ → RepoFile
@@ -42,3 +44,14 @@ abbrev pub had : PostListing → Bool
 had (listings.Have list) = true
 had listings.Failed = false
 had listings.NoMemory = false
+
+-- the answer says that the post failed
+abbrev pub listing_failed : PostListing → Bool
+listing_failed (listings.Have list) = false
+listing_failed listings.Failed = true
+listing_failed listings.NoMemory = false
+
+abbrev pub post_failed : PostReply → Bool
+post_failed posts.Posted = false
+post_failed posts.Failed = true
+post_failed posts.NoMemory = false

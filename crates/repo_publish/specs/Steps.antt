@@ -1,5 +1,5 @@
 -- What the steps of a publication leave.
-use Rattle.std.specs.Prelude.{◌≡◌, ◌≢◌, ℕ, ◌≤◌, ⊤, ◌⊎◌, true, false, List, ◌++◌, length, Option, Some, None, Ok, Err, IfSome}
+use Rattle.std.specs.Prelude.{◌≡◌, ◌≢◌, ℕ, ◌≤◌, ⊤, ◌⊎◌, Bool, true, false, List, ◌++◌, length, Option, Some, None, Result, Ok, Err, IfSome}
 use Rattle.std.specs.Option.{option_map}
 use Rattle.std.specs.List.{All, AllPairs}
 use Rattle.std.specs.Ordering.{nat_cmp}
@@ -61,6 +61,42 @@ IsPostCut end = (end ≡ PostFault) ⊎ (end ≡ NoMemory)
 
 abbrev pub IsCut : PublishEnd → Type 0
 IsCut end = IsPostCut end ⊎ ((end ≡ TreeFault) ⊎ (end ≡ SinkFault))
+
+-- a failure of the post ended it, or of the tree
+abbrev pub is_post_fault : PublishEnd → Bool
+is_post_fault (Published root) = false
+is_post_fault (Order file) = false
+is_post_fault (Reserved file) = false
+is_post_fault (TooLarge file len) = false
+is_post_fault TooMany = false
+is_post_fault (NotAPackage why) = false
+is_post_fault FullListing = false
+is_post_fault PostFault = true
+is_post_fault TreeFault = false
+is_post_fault SinkFault = false
+is_post_fault NoMemory = false
+
+abbrev pub is_tree_fault : PublishEnd → Bool
+is_tree_fault (Published root) = false
+is_tree_fault (Order file) = false
+is_tree_fault (Reserved file) = false
+is_tree_fault (TooLarge file len) = false
+is_tree_fault TooMany = false
+is_tree_fault (NotAPackage why) = false
+is_tree_fault FullListing = false
+is_tree_fault PostFault = false
+is_tree_fault TreeFault = true
+is_tree_fault SinkFault = false
+is_tree_fault NoMemory = false
+
+-- a step ended it so
+abbrev pub failed_post : {X : Type 0} → Result X PublishEnd → Bool
+failed_post (Ok x) = false
+failed_post (Err end) = is_post_fault end
+
+abbrev pub failed_tree : {X : Type 0} → Result X PublishEnd → Bool
+failed_tree (Ok x) = false
+failed_tree (Err end) = is_tree_fault end
 
 -- how a file that comes behind these ends it: it is refused, or else a call of the post failed
 abbrev pub EndsAt : List FarEntry → FarEntry → PublishEnd → Type 0

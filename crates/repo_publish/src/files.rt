@@ -1,12 +1,12 @@
 //! The files of a tree, judged and posted as they come.
 
 ghost use Rattle.std.specs.Prelude.{◌≡◌, ◌≤◌, ◌<◌, ◌∷◌, ◌++◌, [], List, Err, false, IfOk, IfErr, OnOk, is_some, length};
-ghost use Rattle.pkg_names.specs.Streams.{Rose};
 ghost use Rattle.pkg_merkle.specs.Merkle.{merkle_root};
 ghost use Rattle.far_archive.specs.declared.write.FarEntry.{FarEntry as EntryOf};
 ghost use Rattle.meta_contents.specs.Contents.{is_in_meta as stands_in_meta, is_among, paths};
+ghost use Rattle.repo_source.specs.Repo.{Fails};
 ghost use Rattle.repo_publish.specs.Published.{outer_blobs, Posts};
-ghost use Rattle.repo_publish.specs.Steps.{IsTaken, AreTaken, IsPostCut, EndsAt, IsGathered, EndsFiles};
+ghost use Rattle.repo_publish.specs.Steps.{IsTaken, AreTaken, IsPostCut, EndsAt, IsGathered, EndsFiles, failed_post, failed_tree};
 
 use crate::draft::Draft;
 use crate::post::Post;
@@ -26,14 +26,12 @@ pub(crate) fn gather<T: Tree, P: Post>(
     ensures gathered { IfOk result (λ draft. IsGathered (T.left tree.old) (P.files post.old) (P.files post.new)
         draft.inner.items draft.contents draft.last) }
     ensures end { IfErr result (EndsFiles (T.left tree.old)) }
-    ensures post_cause { result ≡ Err PublishEnd.PostFault → Rose (P.faults post.old) (P.faults post.new) }
-    ensures tree_cause { result ≡ Err PublishEnd.TreeFault → Rose (T.faults tree.old) (T.faults tree.new) }
+    ensures post_faults { Fails (failed_post result) (P.faults post.old) (P.faults post.new) }
+    ensures tree_faults { Fails (failed_tree result) (T.faults tree.old) (T.faults tree.new) }
     ensures no_sink { result ≡ Err PublishEnd.SinkFault → ⊥ }
     ensures listing { P.listing post.new ≡ P.listing post.old }
     ensures files_told { is_some (P.files post.new) ≡ is_some (P.files post.old) }
-    ensures faults { P.faults post.old ≤ P.faults post.new }
     ensures list_faults { P.list_faults post.new ≡ P.list_faults post.old }
-    ensures tree_faults { T.faults tree.old ≤ T.faults tree.new }
     ensures tree_told { is_some (T.left tree.new) ≡ is_some (T.left tree.old) }
 {
     let mut draft = Draft::new(alloc);
@@ -67,10 +65,9 @@ fn take<P: Post>(
     ensures end { IfErr result (λ end. (done : List EntryOf)
         → IsTaken done draft.old.inner.items draft.old.contents draft.old.last → EndsAt done file end) }
     ensures posts { OnOk result (Posts (outer_blobs (file ∷ [])) (P.files post.old) (P.files post.new)) }
-    ensures cause { result ≡ Err PublishEnd.PostFault → Rose (P.faults post.old) (P.faults post.new) }
+    ensures faults { Fails (failed_post result) (P.faults post.old) (P.faults post.new) }
     ensures listing { P.listing post.new ≡ P.listing post.old }
     ensures files_told { is_some (P.files post.new) ≡ is_some (P.files post.old) }
-    ensures faults { P.faults post.old ≤ P.faults post.new }
     ensures list_faults { P.list_faults post.new ≡ P.list_faults post.old }
 {
     if let Some(end) = draft.refusal(&file) {
@@ -112,10 +109,9 @@ fn put_outer<P: Post>(
         (contents.new ≡ contents.old ++ (file.name, merkle_root file.bytes) ∷ []) }
     ensures cut { IfErr result IsPostCut }
     ensures posts { OnOk result (Posts (file.bytes ∷ []) (P.files post.old) (P.files post.new)) }
-    ensures cause { result ≡ Err PublishEnd.PostFault → Rose (P.faults post.old) (P.faults post.new) }
+    ensures faults { Fails (failed_post result) (P.faults post.old) (P.faults post.new) }
     ensures listing { P.listing post.new ≡ P.listing post.old }
     ensures files_told { is_some (P.files post.new) ≡ is_some (P.files post.old) }
-    ensures faults { P.faults post.old ≤ P.faults post.new }
     ensures list_faults { P.list_faults post.new ≡ P.list_faults post.old }
 {
     let root = root_of(file.bytes.as_slice());

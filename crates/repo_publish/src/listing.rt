@@ -1,9 +1,9 @@
 //! The listing with the package in it.
 
-ghost use Rattle.std.specs.Prelude.{◌≡◌, ◌≤◌, ◌||◌, nat_lt, length, Err, IfOk, IfErr, OnOk, is_some};
-ghost use Rattle.pkg_names.specs.Streams.{Rose};
+ghost use Rattle.std.specs.Prelude.{◌≡◌, ◌||◌, nat_lt, length, IfOk, IfErr, OnOk, is_some};
+ghost use Rattle.repo_source.specs.Repo.{Fails};
 ghost use Rattle.repo_publish.specs.Post.{NamesOnce};
-ghost use Rattle.repo_publish.specs.Steps.{IsNext, EndsListing, IsTextWith, EndsText};
+ghost use Rattle.repo_publish.specs.Steps.{IsNext, EndsListing, IsTextWith, EndsText, failed_post};
 ghost use Rattle.std.specs.List.{All, position};
 ghost use Rattle.system_lists.specs.Lists.{IsPinned};
 ghost use Rattle.pkg_names.specs.NameAndVariant.{path_eq};
@@ -26,11 +26,10 @@ pub(crate) fn next_listing<P: Post>(
 ) -> Result<Vec<u8>, PublishEnd>
     ensures next { IfOk result (λ text. IsNext (P.listing post.old) path.now root text.items) }
     ensures end { IfErr result (EndsListing (P.listing post.old) path.now root) }
-    ensures cause { result ≡ Err PublishEnd.PostFault → Rose (P.faults post.old) (P.faults post.new) }
+    ensures faults { Fails (failed_post result) (P.faults post.old) (P.faults post.new) }
     ensures listing { P.listing post.new ≡ P.listing post.old }
     ensures files { OnOk result (P.files post.new ≡ P.files post.old) }
     ensures files_told { is_some (P.files post.new) ≡ is_some (P.files post.old) }
-    ensures faults { P.faults post.old ≤ P.faults post.new }
     ensures list_faults { P.list_faults post.new ≡ P.list_faults post.old }
 {
     match post.listing(alloc) {

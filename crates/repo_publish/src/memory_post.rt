@@ -9,7 +9,8 @@ ghost use Rattle.pkg_names.specs.declared.pinned.Pinned.{Pinned as PinnedOf};
 ghost use Rattle.system_lists.specs.Static.{static_of};
 ghost use Rattle.repo_source.specs.declared.file.RepoFile.{RepoFile as FileOf};
 ghost use Rattle.repo_source.specs.MemoryRepo.{new_repo};
-ghost use Rattle.repo_publish.specs.Post.{Puts, NamesOnce, IsListing, Has};
+ghost use Rattle.repo_source.specs.Repo.{Fails};
+ghost use Rattle.repo_publish.specs.Post.{Puts, NamesOnce, IsListing, Has, listing_failed, post_failed};
 ghost use Rattle.repo_publish.specs.Memory.{put_blob, after_listing, after_blob, after_list};
 
 use crate::memory_tree::count_call;
@@ -100,10 +101,9 @@ impl Post for MemPost {
 
     fn listing(&mut self, alloc: Global) -> PostListing
         ensures have { Has (Some self.old.listing) result }
-        ensures cause { result ≡ PostListing.Failed → Rose self.old.faults self.new.faults }
+        ensures faults { Fails (listing_failed result) self.old.faults self.new.faults }
         ensures listing { self.new.listing ≡ self.old.listing }
         ensures files { self.new.files ≡ self.old.files }
-        ensures faults { self.old.faults ≤ self.new.faults }
         ensures list_faults { self.new.list_faults ≡ self.old.list_faults }
 
         // A listed call fails, and no other. The whole post after the call.
@@ -121,9 +121,8 @@ impl Post for MemPost {
 
     fn blob(&mut self, alloc: Global, root: &Root, bytes: &[u8]) -> PostReply
         ensures posted { result ≡ PostReply.Posted → Puts root.now bytes.now self.old.files self.new.files }
-        ensures cause { result ≡ PostReply.Failed → Rose self.old.faults self.new.faults }
+        ensures faults { Fails (post_failed result) self.old.faults self.new.faults }
         ensures listing { self.new.listing ≡ self.old.listing }
-        ensures faults { self.old.faults ≤ self.new.faults }
         ensures list_faults { self.new.list_faults ≡ self.old.list_faults }
 
         // A listed call fails, and no other. The whole post after the call.
@@ -143,11 +142,10 @@ impl Post for MemPost {
         requires listing { IsListing bytes.now }
         ensures posted { result ≡ PostReply.Posted → static_of bytes.now ≡ Ok self.new.listing }
         ensures kept { result ≡ PostReply.NoMemory → self.new.listing ≡ self.old.listing }
-        ensures cause { result ≡ PostReply.Failed → Rose self.old.faults self.new.faults }
+        ensures faults { Fails (post_failed result) self.old.faults self.new.faults }
         ensures list_cause { result ≡ PostReply.Failed → Rose self.old.list_faults self.new.list_faults }
-        ensures files { self.new.files ≡ self.old.files }
-        ensures faults { self.old.faults ≤ self.new.faults }
         ensures list_faults { self.old.list_faults ≤ self.new.list_faults }
+        ensures files { self.new.files ≡ self.old.files }
 
         // A listed call fails, and no other. The whole post after the call.
         ensures listed { (result ≡ PostReply.Failed) ↔ IsListed self.old.failing self.old.calls }

@@ -1,9 +1,10 @@
 //! A tree in memory that tells its files, and fails where it is told to.
 
-ghost use Rattle.std.specs.Prelude.{◌≡◌, ◌≢◌, ◌↔◌, ◌≤◌, true, if◌then◌else◌, Some, IsTrue};
-ghost use Rattle.pkg_names.specs.Streams.{one_more, Rose};
+ghost use Rattle.std.specs.Prelude.{◌≡◌, ◌≢◌, ◌↔◌, if◌then◌else◌, Some, IsTrue};
+ghost use Rattle.pkg_names.specs.Streams.{one_more};
 ghost use Rattle.pkg_names.specs.MemoryStreams.{IsListed};
-ghost use Rattle.repo_publish.specs.Tree.{Takes};
+ghost use Rattle.repo_source.specs.Repo.{Fails};
+ghost use Rattle.repo_publish.specs.Tree.{Takes, tree_failed};
 ghost use Rattle.repo_publish.specs.Memory.{after_next};
 
 use crate::tree::{Tree, TreeReply};
@@ -71,8 +72,7 @@ impl Tree for MemTree {
 
     fn next(&mut self, alloc: Global) -> TreeReply
         ensures took { Takes (Some self.old.left) result (Some self.new.left) }
-        ensures cause { result ≡ TreeReply.Failed → Rose self.old.faults self.new.faults }
-        ensures faults { self.old.faults ≤ self.new.faults }
+        ensures faults { Fails (tree_failed result) self.old.faults self.new.faults }
 
         // A listed call fails, and no other; none wants memory. The whole tree after the call.
         ensures listed { (result ≡ TreeReply.Failed) ↔ IsListed self.old.failing self.old.calls }
@@ -95,8 +95,7 @@ pub(crate) fn count_call(failing: &[u64], calls: &mut u64, faults: &mut u64) -> 
     ensures listed { IsTrue result ↔ IsListed failing.now calls.old }
     ensures calls { calls.new ≡ one_more calls.old }
     ensures faults { faults.new ≡ if result then one_more faults.old else faults.old }
-    ensures more { faults.old ≤ faults.new }
-    ensures rose { result ≡ true → Rose faults.old faults.new }
+    ensures failed { Fails result faults.old faults.new }
 {
     *calls = calls.saturating_add(1);
     let fails = failing.contains(calls);

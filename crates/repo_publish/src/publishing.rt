@@ -5,9 +5,10 @@ ghost use Rattle.std.specs.Option.{option_map};
 ghost use Rattle.pkg_names.specs.Streams.{Rose};
 ghost use Rattle.pkg_names.specs.Text.{line_feed};
 ghost use Rattle.system_lists.specs.Static.{line_text, static_of};
+ghost use Rattle.repo_source.specs.Repo.{Fails};
 ghost use Rattle.repo_publish.specs.Published.{package_root};
-ghost use Rattle.repo_publish.specs.Post.{Puts, IsListing};
-ghost use Rattle.repo_publish.specs.Steps.{IsMade, IsPostCut};
+ghost use Rattle.repo_publish.specs.Post.{Puts, IsListing, post_failed};
+ghost use Rattle.repo_publish.specs.Steps.{IsMade, IsPostCut, failed_post, failed_tree, is_post_fault, is_tree_fault};
 ghost use Rattle.repo_publish.specs.Ends.{ended, EndsAs, EndsEarly, Stays, IsAllPosted, IsPosted, IsEarly};
 ghost use Rattle.repo_publish.specs.Ends.{IfListed, IfPublished, IfUnwritten};
 
@@ -71,12 +72,10 @@ pub fn publish<T: Tree, P: Post, W: Sink>(
     ensures listing { Stays (P.listing post.old) (P.listing post.new) (P.list_faults post.old) (P.list_faults post.new)
         result }
     ensures unwritten { IfUnwritten result (out.new ≡ out.old) }
-    ensures post_cause { result ≡ PublishEnd.PostFault → Rose (P.faults post.old) (P.faults post.new) }
-    ensures tree_cause { result ≡ PublishEnd.TreeFault → Rose (T.faults tree.old) (T.faults tree.new) }
+    ensures post_faults { Fails (is_post_fault result) (P.faults post.old) (P.faults post.new) }
+    ensures tree_faults { Fails (is_tree_fault result) (T.faults tree.old) (T.faults tree.new) }
     ensures sink_cause { result ≡ PublishEnd.SinkFault → Rose (W.faults out.old) (W.faults out.new) }
-    ensures post_faults { P.faults post.old ≤ P.faults post.new }
     ensures list_faults { P.list_faults post.old ≤ P.list_faults post.new }
-    ensures tree_faults { T.faults tree.old ≤ T.faults tree.new }
     ensures sink_faults { W.faults out.old ≤ W.faults out.new }
     ensures listing_told { is_some (P.listing post.new) ≡ is_some (P.listing post.old) }
     ensures files_told { is_some (P.files post.new) ≡ is_some (P.files post.old) }
@@ -113,11 +112,9 @@ fn post_all<T: Tree, P: Post>(
     ensures early { IfErr result IsEarly }
     ensures listing { IfErr result (Stays (P.listing post.old) (P.listing post.new)
         (P.list_faults post.old) (P.list_faults post.new)) }
-    ensures post_cause { result ≡ Err PublishEnd.PostFault → Rose (P.faults post.old) (P.faults post.new) }
-    ensures tree_cause { result ≡ Err PublishEnd.TreeFault → Rose (T.faults tree.old) (T.faults tree.new) }
-    ensures post_faults { P.faults post.old ≤ P.faults post.new }
+    ensures post_faults { Fails (failed_post result) (P.faults post.old) (P.faults post.new) }
+    ensures tree_faults { Fails (failed_tree result) (T.faults tree.old) (T.faults tree.new) }
     ensures list_faults { P.list_faults post.old ≤ P.list_faults post.new }
-    ensures tree_faults { T.faults tree.old ≤ T.faults tree.new }
     ensures listing_told { is_some (P.listing post.new) ≡ is_some (P.listing post.old) }
     ensures files_told { is_some (P.files post.new) ≡ is_some (P.files post.old) }
     ensures tree_told { is_some (T.left tree.new) ≡ is_some (T.left tree.old) }
@@ -152,13 +149,11 @@ fn meta_of<T: Tree, P: Post>(
     ensures small { IfOk result (λ meta. length meta.items ≤ META_LIMIT) }
     ensures end { IfErr result (EndsEarly (T.left tree.old) path.now) }
     ensures early { IfErr result IsEarly }
-    ensures post_cause { result ≡ Err PublishEnd.PostFault → Rose (P.faults post.old) (P.faults post.new) }
-    ensures tree_cause { result ≡ Err PublishEnd.TreeFault → Rose (T.faults tree.old) (T.faults tree.new) }
+    ensures post_faults { Fails (failed_post result) (P.faults post.old) (P.faults post.new) }
+    ensures tree_faults { Fails (failed_tree result) (T.faults tree.old) (T.faults tree.new) }
     ensures listing { P.listing post.new ≡ P.listing post.old }
     ensures files_told { is_some (P.files post.new) ≡ is_some (P.files post.old) }
-    ensures faults { P.faults post.old ≤ P.faults post.new }
     ensures list_faults { P.list_faults post.new ≡ P.list_faults post.old }
-    ensures tree_faults { T.faults tree.old ≤ T.faults tree.new }
     ensures tree_told { is_some (T.left tree.new) ≡ is_some (T.left tree.old) }
 {
     let draft = match gather(alloc, tree, post) {
@@ -186,10 +181,9 @@ fn put_package<P: Post>(
     ensures kept { IfErr result (λ end. (P.listing post.new ≡ P.listing post.old)
         ⊎ ((end ≡ PublishEnd.PostFault) × Rose (P.list_faults post.old) (P.list_faults post.new))) }
     ensures end { IfErr result IsPostCut }
-    ensures cause { result ≡ Err PublishEnd.PostFault → Rose (P.faults post.old) (P.faults post.new) }
+    ensures faults { Fails (failed_post result) (P.faults post.old) (P.faults post.new) }
     ensures listing_told { is_some (P.listing post.new) ≡ is_some (P.listing post.old) }
     ensures files_told { is_some (P.files post.new) ≡ is_some (P.files post.old) }
-    ensures faults { P.faults post.old ≤ P.faults post.new }
     ensures list_faults { P.list_faults post.old ≤ P.list_faults post.new }
 {
     match end_of(post.blob(alloc, root, meta)) {
@@ -204,7 +198,8 @@ fn put_package<P: Post>(
 
 // What a publication ends with where a post doesn't take something.
 pub(crate) fn end_of(reply: PostReply) -> Result<(), PublishEnd>
-    ensures { result ≡ ended reply }
+    ensures ended { result ≡ ended reply }
+    ensures failed { failed_post result ≡ post_failed reply }
 {
     match reply {
         PostReply::Posted => Ok(()),

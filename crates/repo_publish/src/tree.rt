@@ -1,9 +1,9 @@
 //! The files that are to be published.
 
-ghost use Rattle.std.specs.Prelude.{◌≡◌, ℕ, ◌≤◌, List, Option, is_some};
-ghost use Rattle.pkg_names.specs.Streams.{Rose};
+ghost use Rattle.std.specs.Prelude.{◌≡◌, ℕ, List, Option, is_some};
 ghost use Rattle.far_archive.specs.declared.write.FarEntry.{FarEntry as EntryOf};
-ghost use Rattle.repo_publish.specs.Tree.{Takes};
+ghost use Rattle.repo_source.specs.Repo.{Fails};
+ghost use Rattle.repo_publish.specs.Tree.{Takes, tree_failed};
 
 use far_archive::FarEntry;
 use std::alloc::Global;
@@ -22,13 +22,12 @@ pub trait Tree {
     /// The files that are left, where the tree tells them.
     ghost left: { Self → Option (List EntryOf) };
 
-    /// How often it has failed. It never falls, and stands still at the end of its type.
+    /// How often it has failed. It stands still at the end of its type.
     ghost faults: { Self → ℕ };
 
     /// The next file. An answer without one that isn't the end says nothing of the files left.
     fn next(&mut self, alloc: Global) -> TreeReply
         ensures took { Takes (left self.old) result (left self.new) }
         ensures told { is_some (left self.new) ≡ is_some (left self.old) }
-        ensures cause { result ≡ TreeReply.Failed → Rose (faults self.old) (faults self.new) }
-        ensures faults { faults self.old ≤ faults self.new };
+        ensures faults { Fails (tree_failed result) (faults self.old) (faults self.new) };
 }

@@ -23,7 +23,8 @@ use Rattle.resolver.specs.declared.reply.Stop.TheVariants as stops
 use Rattle.resolver.specs.Serving.{Point, ticket_for, after_want}
 use Rattle.resolver.specs.Serving.Point.{Waiting, Granted, Giving, Refused}
 use Rattle.resolver.specs.Steps.{Goes, Fetches, reply_of, after_arrival, held_after_arrival}
-use Rattle.resolver.proofs.Goes.{goes_then, goes_rests, failed_same}
+use Rattle.repo_source.proofs.Faults.{failed_same}
+use Rattle.resolver.proofs.Goes.{goes_then, goes_rests}
 use Rattle.resolver.proofs.Desks.{granted_by, want_goes, give_up_goes, cut_goes}
 use Rattle.resolver.proofs.Handles.{claim_back}
 

@@ -43,7 +43,8 @@ use Rattle.resolver.specs.Serving.Point.{Asking, Waiting, Granted, Roomy, Giving
 use Rattle.resolver.specs.Counting.{is_failure}
 use Rattle.resolver.specs.Fetched.{IsListed, HasFile, IsBlob, IsOther, TellsInAct}
 use Rattle.resolver.specs.Steps.{Goes, IsFilled, failures_of}
-use Rattle.resolver.proofs.Goes.{Fits, as_numbered, fits_act, fits_break, goes_does, goes_rests, failed_same}
+use Rattle.repo_source.proofs.Faults.{failed_same}
+use Rattle.resolver.proofs.Goes.{Fits, as_numbered, fits_act, fits_break, goes_does, goes_rests}
 
 -- ---- a package is asked for
 

@@ -1,10 +1,11 @@
 -- Steps of a resolve: one event, none, and one step after another.
-use Rattle.std.proofs.Common.{◌≡◌, ℕ, zero, suc, add-zero, add-suc, ◌+◌, ◌≤◌, Bool, cond, List, [], ◌∷◌, ◌++◌, length, Option, Some, refl, sym, ap, subst, ◌∙◌, append_assoc, arith}
+use Rattle.std.proofs.Common.{◌≡◌, ℕ, zero, suc, add-zero, add-suc, ◌+◌, Bool, cond, List, [], ◌∷◌, ◌++◌, length, Option, Some, refl, sym, ap, subst, ◌∙◌, append_assoc, arith}
 use Rattle.std.proofs.lemmas.List.{append-nil}
 use Rattle.std.proofs.lemmas.List.Elements.{All-nil, All-cons, All-append}
 use Rattle.std.proofs.lemmas.List.Sums.{sum_by-append}
-use Rattle.pkg_names.specs.Streams.{one_more, RoseBy}
+use Rattle.pkg_names.specs.Streams.{one_more}
 use Rattle.repo_source.specs.Repo.{FailedBy}
+use Rattle.repo_source.proofs.Faults.{failed_then}
 use Rattle.pkg_names.specs.declared.pinned.Pinned.{Pinned}
 use Rattle.repo_source.specs.declared.file.RepoFile.{RepoFile}
 use Rattle.store_model.specs.declared.events.Event.{Event}
@@ -18,20 +19,6 @@ use Rattle.resolver.specs.Fetched.{Lists, ListsInAct, Tells, TellsInAct, TellsUn
 use Rattle.resolver.specs.Steps.{Goes, Fetches}
 
 -- ---- counts that rise
-
-pub rose_then : (m n x y z : ℕ) → RoseBy m x y → RoseBy n y z → RoseBy (m + n) x z
-rose_then m n x y z h k = omega arith
-
-pub rose_same : (x : ℕ) → RoseBy 0 x x
-rose_same x = omega arith
-
-pub failed_then : (m n x y z : ℕ) → FailedBy m x y → FailedBy n y z → FailedBy (m + n) x z
-failed_then m n x y z h k = (rose_then m n x y z h.0 k.0, sum h.1 k.1) where
-  sum : y ≤ x + m → z ≤ y + n → z ≤ x + (m + n)
-  sum a b = omega arith
-
-pub failed_same : (x : ℕ) → FailedBy 0 x x
-failed_same x = (rose_same x, omega arith)
 
 counted_then : (m n x : ℕ) → counted n (counted m x) ≡ counted (m + n) x
 counted_then m zero x = ap (λ (i : ℕ). counted i x) (sym (add-zero m))

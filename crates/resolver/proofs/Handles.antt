@@ -60,7 +60,7 @@ without_last number x (t ∷ tickets) is others =
     rw (All-head (λ (t : HeldTicket). (t.number == number) ≡ false) t tickets others)
     (ap (λ (ts : List HeldTicket). t ∷ ts) (without_last number x tickets is (All-tail (λ (t : HeldTicket). (t.number == number) ≡ false) t tickets others)))
 
-found_last : (number : ℕ) (x : HeldTicket) (tickets : List HeldTicket) → x.number ≡ number → All (λ (t : HeldTicket). (t.number == number) ≡ false) tickets → ticket_with (tickets ++ x ∷ []) number ≡ Some x
+pub found_last : (number : ℕ) (x : HeldTicket) (tickets : List HeldTicket) → x.number ≡ number → All (λ (t : HeldTicket). (t.number == number) ≡ false) tickets → ticket_with (tickets ++ x ∷ []) number ≡ Some x
 found_last number x [] is others = rw (eq-eqb x.number number is) refl
 found_last number x (t ∷ tickets) is others =
     rw (All-head (λ (t : HeldTicket). (t.number == number) ≡ false) t tickets others)

@@ -5,3 +5,5 @@ pub mod Filling
 pub mod Runs
 pub mod Arriving
 pub mod Whole
+pub mod Leaving
+pub mod Choosing

@@ -1,8 +1,10 @@
 -- The words in which the laws tell what a run is.
-use Rattle.std.specs.Prelude.{◌≡◌, ℕ, Bool, true, false, List, [], ◌∷◌, ◌⊎◌, Option, Some, None, IfSome}
+use Rattle.std.specs.Prelude.{◌≡◌, ℕ, Bool, true, false, List, [], ◌∷◌, ◌++◌, ◌+◌, length, ◌⊎◌, Option, Some, None, IfSome, Contains}
 use Rattle.package_indexes.specs.declared.Choice.{Choice}
+use Rattle.package_indexes.specs.Indexes.{chosen as root_chosen}
 use Rattle.pkg_names.specs.NameAndVariant.{NameAndVariant}
 use Rattle.pkg_names.specs.declared.root.Root.{Root}
+use Rattle.open_tracker.specs.declared.dirs.DirEntry.{DirEntry}
 use Rattle.store_model.specs.declared.ends.BeginEnd.{BeginEnd}
 use Rattle.store_model.specs.declared.ends.BeginEnd.TheVariants as begins
 use Rattle.store_model.specs.declared.ends.WantEnd.TheVariants as wants
@@ -11,8 +13,11 @@ use Rattle.store_model.specs.declared.events.Act.TheVariants as acts
 use Rattle.store_model.specs.declared.events.CallName.{CallName}
 use Rattle.store_model.specs.declared.events.CallName.TheVariants as calls
 use Rattle.store_model.specs.declared.events.LookedAt.{LookedAt}
-use Rattle.store_model.specs.History.{Numbered}
-use Rattle.store_model.specs.Lanes.{ends_claim_of}
+use Rattle.store_model.specs.declared.events.Event.{Event}
+use Rattle.store_model.specs.declared.replies.Dir.{Dir}
+use Rattle.store_model.specs.History.{Origin, Numbered, after}
+use Rattle.store_model.specs.Lanes.{ends_claim_of, claims_of, tickets_of, dirs_of, stage_of}
+use Rattle.store_model.specs.State.{State}
 use Rattle.resolver.specs.declared.reply.ResolveReply.{ResolveReply}
 use Rattle.resolver.specs.declared.reply.ResolveReply.TheVariants as replies
 use Rattle.resolver.specs.Serving.{IsChoiceFor}
@@ -101,3 +106,67 @@ abbrev pub EndsAs : ResolveReply → List Numbered → Type 0
 EndsAs reply [] = reply ≡ replies.NoMemory
 EndsAs reply (e ∷ []) = Tells reply e
 EndsAs reply (e ∷ es) = EndsAs reply es
+
+-- ---- the root that is asked for
+
+-- a ticket is of the root that the choice gives in the state
+abbrev pub IsOfChoice : State → NameAndVariant → Choice → BeginEnd → Type 0
+IsOfChoice s path choice (begins.Ticket root) = root_chosen s.base s.cached path choice ≡ Some root
+IsOfChoice s path choice reply = Unit {0}
+
+-- The event stands in the history, as its number says, and asks for the package with this answer. A ticket is of the
+-- root that the choice gives in the state before it.
+pub record IsAskedIn (origin : Origin) (history : List Event) (path : NameAndVariant) (pin : Option Root)
+    (reply : BeginEnd) (e : Numbered) : Type 0 where
+  pub first : List Event
+  pub later : List Event
+  pub place : history ≡ first ++ e.event ∷ later
+  pub number : e.number ≡ length first + 1
+  pub choice : Choice
+  pub chosen : IsChoiceFor pin choice
+  pub seen : List LookedAt
+  pub is : e.event.act ≡ acts.Begin path choice reply seen
+  pub root : IsOfChoice (after origin first) path choice reply
+
+-- so the event asks for the package, or that is refused, and none of the rest asks for any
+pub record AsksFirstIn (origin : Origin) (history : List Event) (path : NameAndVariant) (pin : Option Root)
+    (e : Numbered) (rest : List Numbered) : Type 0 where
+  pub asks : ((reply : BeginEnd) × IsAskedIn origin history path pin reply e) ⊎ IsRefusedBegin path e.event.act
+  pub once : begins_in rest ≡ 0
+
+abbrev pub AsksOnceIn : Origin → List Event → NameAndVariant → Option Root → List Numbered → Type 0
+AsksOnceIn origin history path pin [] = Unit {0}
+AsksOnceIn origin history path pin (e ∷ es) = AsksFirstIn origin history path pin e es
+
+abbrev pub OfFirst : (Numbered → Type 0) → List Numbered → Type 0
+OfFirst P [] = ⊥
+OfFirst P (e ∷ es) = P e
+
+-- the run got a ticket, and the directory is the lane's, of the ticket's root
+pub record OpensTicket (origin : Origin) (history : List Event) (lane : ℕ) (path : NameAndVariant) (pin : Option Root)
+    (run : List Numbered) (dir : Dir) : Type 0 where
+  pub root : Root
+  pub asked : OfFirst (IsAskedIn origin history path pin (begins.Ticket root)) run
+  pub opened : Contains (dirs_of lane (after origin history)) (record { number = dir.number; lane = lane; root = root })
+
+-- ---- what is left
+
+-- the lane's directories, with the one that is replied, of some package
+abbrev pub HasDirsAfter : ℕ → ResolveReply → List DirEntry → List DirEntry → Type 0
+HasDirsAfter lane (replies.Resolved dir) old new =
+    (root : Root) × (new ≡ old ++ record { number = dir.number; lane = lane; root = root } ∷ [])
+HasDirsAfter lane reply old new = new ≡ old
+
+-- In both states the lane has the same claims, tickets and update, and in the later one of directories only the one
+-- that is replied more.
+pub record LeavesNothing (lane : ℕ) (reply : ResolveReply) (old new : State) : Type 0 where
+  pub claims : claims_of lane new ≡ claims_of lane old
+  pub tickets : tickets_of lane new ≡ tickets_of lane old
+  pub stage : stage_of lane new ≡ stage_of lane old
+  pub dirs : HasDirsAfter lane reply (dirs_of lane old) (dirs_of lane new)
+
+-- the lane has no claim, no ticket and no update
+pub record IsIdleIn (lane : ℕ) (s : State) : Type 0 where
+  pub claims : claims_of lane s ≡ []
+  pub tickets : tickets_of lane s ≡ []
+  pub stage : stage_of lane s ≡ None

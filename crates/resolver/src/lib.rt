@@ -10,6 +10,6 @@ mod reply;
 mod resolving;
 mod rounds;
 
-pub use laws::runs_resolve_one_package;
+pub use laws::{resolves_leave_nothing, resolves_open_what_is_chosen, runs_resolve_one_package};
 pub use reply::ResolveReply;
 pub use resolving::resolve;

@@ -8,13 +8,14 @@ use Rattle.store_model.specs.State.{Standing}
 use Rattle.store_model.specs.Holding.{held}
 use Rattle.store_model.specs.History.{Origin, IsLegal, Numbered, of_lane}
 use Rattle.plain_ledger.specs.Ledgers.{origin_of, event_by}
+use Rattle.plain_desk.specs.Memory.{AreOfMemory}
 use Rattle.plain_desk.specs.Stores.{StoreOf}
 use Rattle.plain_desk.specs.Opening.{HasBooted}
 use Rattle.first_store.specs.Start.{IsStart, start_geometry}
 use Rattle.script_lang.specs.declared.request.Request.{Request}
 use Rattle.script_lang.specs.Scripts.{IsScript, IsGreatestLane}
 use Rattle.system_updater.specs.Viewing.{Told}
-use Rattle.script_server.specs.Lanes.{IsAtRest, AreFresh, ServesLanes}
+use Rattle.script_server.specs.Lanes.{IsAtRest, AreServed, AreFresh, ServesLanes}
 use Rattle.script_server.specs.Serving.{ServesScript}
 use Rattle.script_server.proofs.Histories.{reads_files, collects_rest}
 use Rattle.script_server.proofs.Turns.{idle, rest_served}
@@ -35,16 +36,17 @@ module _ (d : Standing) (is_start : IsStart d) (s s1 : StoreOf) (booted : HasBoo
   rest (suc lane) = go (cases_lt lanes (suc lane)) where
     go : (lanes < suc lane) ⊎ (suc lane ≤ lanes) → IsAtRest (held (of_lane (suc lane) s1.history))
     go (inl behind) = idle (of_lane (suc lane) s1.history) (serves.fresh (suc lane) (omega (arith, behind)))
-    go (inr within) = rest_served requests s1.history 0 serves.cuts repos repos_now serves.served (suc lane) (omega arith) (omega (arith, within, serves.each))
+    go (inr within) = rest_served s1.origin requests s1.history 0 serves.cuts repos repos_now serves.served (suc lane) (omega arith) (omega (arith, within, serves.each))
 
-  pub serves_script : IsLegal s1.origin s1.history → IsGreatestLane requests lanes → (text : Option (List ℕ)) → IfSome text (λ bytes. IsScript bytes requests)
+  pub serves_script : IsLegal s1.origin s1.history → AreOfMemory s1.history → IsGreatestLane requests lanes → (text : Option (List ℕ)) → IfSome text (λ bytes. IsScript bytes requests)
       → ServesScript text starved s1.history repos repos_now
-  serves_script legal greatest text asked =
+  serves_script legal steady greatest text asked =
       let lawful = subst (λ (o : Origin). IsLegal o s1.history) from legal in
       record {
         start = d;
         is_start = is_start;
         legal = lawful;
+        steady = steady;
         boot = (booted.slot, booted.seen, boot);
         requests = requests;
         asked = asked;
@@ -53,7 +55,7 @@ module _ (d : Standing) (is_start : IsStart d) (s s1 : StoreOf) (booted : HasBoo
         cuts = serves.cuts;
         each = serves.each;
         some = serves.some;
-        served = serves.served;
+        served = subst (λ (o : Origin). AreServed o requests s1.history 0 serves.cuts repos repos_now) from serves.served;
         none = λ lane behind. serves.fresh lane (omega (arith, behind));
         reads = reads_files (origin_of start_geometry d) s1.history lawful;
         collects = collects_rest (origin_of start_geometry d) s1.history lawful;

@@ -15,6 +15,7 @@ use Rattle.store_model.specs.Step.{step}
 use Rattle.store_model.specs.History.{Origin, IsLegal, Numbered, after, of_lane}
 use Rattle.store_model.specs.Lanes.{claims_of, tickets_of, stage_of}
 use Rattle.plain_ledger.specs.Ledgers.{origin_of, event_by}
+use Rattle.plain_desk.specs.Memory.{AreOfMemory}
 use Rattle.script_lang.specs.declared.request.Request.{Request}
 use Rattle.script_lang.specs.Scripts.{IsScript, IsGreatestLane}
 use Rattle.system_updater.specs.Viewing.{Told}
@@ -59,14 +60,15 @@ pub record RestsIn (lane : ℕ) (s : State) : Type 0 where
   pub tickets : tickets_of lane s ≡ []
   pub stage : stage_of lane s ≡ None
 
--- The history is legal from the store that the program begins with. After the boot, each lane's events serve its
--- requests of the script, by the repository at its place, and no other event is there. At the end no lane holds
--- anything but directories.
+-- The history is legal from the store that the program begins with, and tells of no disk. After the boot, each
+-- lane's events serve its requests of the script, by the repository at its place, and no other event is there. At the
+-- end no lane holds anything but directories.
 pub record ServesScript (text : Option (List ℕ)) (starved : Bool) (history : List Event) (repos repos_now : List Told)
     : Type 0 where
   pub start : Standing
   pub is_start : IsStart start
   pub legal : IsLegal (origin_of start_geometry start) history
+  pub steady : AreOfMemory history
   pub boot : IsBoot (of_lane 0 history)
   pub requests : List Request
   pub asked : IfSome text (λ bytes. IsScript bytes requests)
@@ -75,7 +77,7 @@ pub record ServesScript (text : Option (List ℕ)) (starved : Bool) (history : L
   pub cuts : List Bool
   pub each : length cuts ≡ lanes
   pub some : starved ≡ some_cut cuts
-  pub served : AreServed requests history 0 cuts repos repos_now
+  pub served : AreServed (origin_of start_geometry start) requests history 0 cuts repos repos_now
   pub none : AreFresh lanes history
   pub reads : ReadsFiles (origin_of start_geometry start) history
   pub collects : CollectsRest (origin_of start_geometry start) history

@@ -1,12 +1,13 @@
 //! The lanes of a script, one after the other, at a store in memory.
 
-ghost use Rattle.std.specs.Prelude.{◌≡◌, ◌+◌, ◌<◌, ◌≤◌, ◌^◌, [], length, map, All};
+ghost use Rattle.std.specs.Prelude.{◌≡◌, ◌+◌, ◌<◌, ◌≤◌, ◌^◌, List, [], ◌++◌, length, map, All};
 ghost use Rattle.script_lang.specs.Servable.{IsServable};
 ghost use Rattle.script_lang.specs.declared.request.Request.{Request as RequestOf};
+ghost use Rattle.store_model.specs.declared.events.Event.{Event as EventOf};
 ghost use Rattle.store_model.specs.History.{of_lane};
 ghost use Rattle.system_updater.specs.Viewing.{told};
 ghost use Rattle.plain_desk.specs.Stores.{LeavesOthers};
-ghost use Rattle.script_server.specs.Lanes.{AreFresh, IsServed, ServesLanes};
+ghost use Rattle.script_server.specs.Lanes.{AreFresh, IsServed, ServesLanes, place_at};
 
 use lane_server::serve_lane;
 use plain_desk::{Lane, Store};
@@ -78,11 +79,12 @@ fn serve_one<T: Wait, R: Repo>(
 ) -> bool
     requires servable { All (λ (r : RequestOf). IsServable r.ask) requests.now }
     requires fresh { of_lane lane store.old.history ≡ [] }
-    ensures served { IsServed requests.now lane result
+    ensures served { IsServed requests.now (place_at store.new.origin store.new.history lane) result
         (told (R.listing repo.old) (R.files repo.old) (R.faults repo.old) (R.fetches repo.old))
         (told (R.listing repo.new) (R.files repo.new) (R.faults repo.new) (R.fetches repo.new))
         (of_lane lane store.new.history) }
     ensures others { LeavesOthers lane store.old.history store.new.history }
+    ensures grows { (more : List EventOf) × (store.new.history ≡ store.old.history ++ more) }
     ensures origin { store.new.origin ≡ store.old.origin }
 {
     let mut desk = Lane::make(store, lane);

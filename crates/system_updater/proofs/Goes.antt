@@ -29,7 +29,7 @@ use Rattle.resolver.specs.Fetched.{Lists, ListsInAct, Tells, TellsInAct, TellsUn
 use Rattle.resolver.specs.Viewing.{Resolves as Resolved, IsHeldAfter}
 use Rattle.resolver.specs.declared.reply.ResolveReply.{ResolveReply}
 use Rattle.resolver.specs.declared.reply.ResolveReply.TheVariants as resolved
-use Rattle.resolver.proofs.Goes.{rose_then, rose_same}
+use Rattle.repo_source.proofs.Faults.{rose_then, rose_same}
 use Rattle.resolver.proofs.Handles.{iff_then}
 use Rattle.system_updater.specs.Serving.{Point, Follows, Leads, joined}
 use Rattle.system_updater.specs.Holding.{IsHeldAt}

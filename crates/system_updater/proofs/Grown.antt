@@ -44,7 +44,7 @@ use Rattle.system_updater.specs.Serving.Point.{Staging}
 use Rattle.system_updater.specs.Serving.Prior.{PackagesRead}
 use Rattle.system_updater.specs.Viewing.{Told}
 use Rattle.system_updater.specs.Steps.{Goes, Judges}
-use Rattle.system_updater.specs.Filled.{Did, IsSumOf, IsFileOf, IsImageOf, AreImagesOf, TellsOf, IsEarly, IsFilledBy, IsBytesOf, IsMadeBy, HasBytesOf, HasFileOf, HaveFilesOf, KeepsOther, ReadsFile, ReadsImages, OrEarly, OrBad, EarlyRefusal, SealsOf, SlotOf, IsJudged}
+use Rattle.system_updater.specs.Filled.{Did, IsSumOf, IsFileOf, IsVbmetaOf, IsImageOf, AreImagesOf, TellsOf, IsEarly, IsFilledBy, IsBytesOf, IsMadeBy, HasBytesOf, HasFileOf, HasVbmetaOf, HaveFilesOf, KeepsOther, ReadsFile, ReadsImages, OrEarly, OrBad, EarlyRefusal, SealsOf, SlotOf, IsJudged}
 use Rattle.system_updater.proofs.Closes.{open_there}
 
 -- ---- what was seen and done has grown
@@ -123,8 +123,8 @@ file_wider u v w z F G url sum h k f is = record {
       (sum_firm F G (after w.origin is.seen) (found (after w.origin is.seen) w.lane is.from.number is.file) sum f is.is);
 }
 
-vbmeta_wider : (u v w z : View) (F G : Type 0) (image : Option ImageRef) (sum : ImageSum) → Grew u v → Grew w z → (F → G) → IfSome image (λ (i : ImageRef). IsFileOf G v w i.url sum) → IfSome image (λ (i : ImageRef). IsFileOf F u z i.url sum)
-vbmeta_wider u v w z F G None sum h k f is = tt
+vbmeta_wider : (u v w z : View) (F G : Type 0) (image : Option ImageRef) (sum : ImageSum) → Grew u v → Grew w z → (F → G) → IsVbmetaOf G v w image sum → IsVbmetaOf F u z image sum
+vbmeta_wider u v w z F G None sum h k f is = is
 vbmeta_wider u v w z F G (Some image) sum h k f is = file_wider u v w z F G image.url sum h k f is
 
 pub image_wider : (u v w z : View) (F G : Type 0) (images : Images) (kind : ImageKind) (sum : ImageSum) → Grew u v → Grew w z → (F → G) → IsImageOf G v w images kind sum → IsImageOf F u z images kind sum
@@ -172,6 +172,10 @@ filled_wider u v w z F G (replies.BaseMissing root) h k f is = (is.0, did_wider 
 filled_wider u v w z F G (replies.NotASystem why) h k f is = (is.0, did_wider u v w z _ h k is.1, tells_wider u v w z F G is.0 (replies.NotASystem why) h k f is.2)
 filled_wider u v w z F G (replies.Differs kind got) h k f is = (is.0, did_wider u v w z _ h k is.1, tells_wider u v w z F G is.0 (replies.Differs kind got) h k f is.2)
 filled_wider u v w z F G reply h k f is = tt
+
+-- a desk that is firm wherever this is so
+pub filled_firm : (v w : View) (F G : Type 0) (reply : UpdateReply) → (F → G) → IsFilledBy G v w reply → IsFilledBy F v w reply
+filled_firm v w F G reply f is = filled_wider v v w w F G reply (grew_none v) (grew_none w) f is
 
 -- a resolve that was refused
 pub early_refusal : (reply : ResolveReply) → IsEarly (refusal_of reply)
@@ -239,9 +243,9 @@ file_sealed F kept v w kind url sum has sums = record {
   is = sum_by F kept (after w.origin has.is.seen) (found (after w.origin has.is.seen) w.lane has.from.number has.file) kind has.is.bytes sum has.is.there has.is.is has.is.made sums;
 }
 
-vbmeta_sealed : (F : Type 0) (kept : Kept) (v w : View) (image : Option ImageRef) (sum : ImageSum) → IfSome image (λ (i : ImageRef). HasFileOf F kept v w kinds.Vbmeta i.url) → OfKept kept (Image kinds.Vbmeta) (λ (b : List ℕ). image_sum b ≡ sum)
-    → IfSome image (λ (i : ImageRef). IsFileOf F v w i.url sum)
-vbmeta_sealed F kept v w None sum has sums = tt
+vbmeta_sealed : (F : Type 0) (kept : Kept) (v w : View) (image : Option ImageRef) (sum : ImageSum) → HasVbmetaOf F kept v w image → OfKept kept (Image kinds.Vbmeta) (λ (b : List ℕ). image_sum b ≡ sum)
+    → IsVbmetaOf F v w image sum
+vbmeta_sealed F kept v w None sum has sums = sym (sums [] has)
 vbmeta_sealed F kept v w (Some image) sum has sums = file_sealed F kept v w kinds.Vbmeta image.url sum has sums
 
 image_sealed : (F : Type 0) (kept : Kept) (v w : View) (images : Images) (kind : ImageKind) (sum : ImageSum) → HaveFilesOf F kept v w images → OfKept kept (Image kind) (λ (b : List ℕ). image_sum b ≡ sum) → IsImageOf F v w images kind sum
@@ -289,16 +293,16 @@ have_wider u v w F G kept images h f has = (
   has_wider u v w w F G kept kept kinds.Zbi images.zbi.url h (grew_none w) f (λ bytes there. there) has.0,
   vbmeta images.vbmeta has.1,
 ) where
-  vbmeta : (image : Option ImageRef) → IfSome image (λ (i : ImageRef). HasFileOf G kept v w kinds.Vbmeta i.url) → IfSome image (λ (i : ImageRef). HasFileOf F kept u w kinds.Vbmeta i.url)
-  vbmeta None is = tt
+  vbmeta : (image : Option ImageRef) → HasVbmetaOf G kept v w image → HasVbmetaOf F kept u w image
+  vbmeta None is = is
   vbmeta (Some image) is = has_wider u v w w F G kept kept kinds.Vbmeta image.url h (grew_none w) f (λ bytes there. there) is
 
 pub with_vbmeta : (F : Type 0) (kept : Kept) (v w : View) (vbmeta : Option ImageRef) (image : ImageRef) → vbmeta ≡ Some image → HasFileOf F kept v w kinds.Vbmeta image.url
-    → IfSome vbmeta (λ (i : ImageRef). HasFileOf F kept v w kinds.Vbmeta i.url)
-with_vbmeta F kept v w vbmeta image is has = subst (λ (o : Option ImageRef). IfSome o (λ (i : ImageRef). HasFileOf F kept v w kinds.Vbmeta i.url)) (sym is) has
+    → HasVbmetaOf F kept v w vbmeta
+with_vbmeta F kept v w vbmeta image is has = subst (HasVbmetaOf F kept v w) (sym is) has
 
-pub without_vbmeta : (F : Type 0) (kept : Kept) (v w : View) (vbmeta : Option ImageRef) → vbmeta ≡ None → IfSome vbmeta (λ (i : ImageRef). HasFileOf F kept v w kinds.Vbmeta i.url)
-without_vbmeta F kept v w vbmeta is = subst (λ (o : Option ImageRef). IfSome o (λ (i : ImageRef). HasFileOf F kept v w kinds.Vbmeta i.url)) (sym is) tt
+pub without_vbmeta : (F : Type 0) (kept : Kept) (v w : View) (vbmeta : Option ImageRef) → vbmeta ≡ None → kept (Image kinds.Vbmeta) [] → HasVbmetaOf F kept v w vbmeta
+without_vbmeta F kept v w vbmeta is empty = subst (HasVbmetaOf F kept v w) (sym is) empty
 
 -- behind a seal no image differs
 pub tells_judged : (F : Type 0) (v w z : View) (images : Images) (reply : UpdateReply) → IsJudged reply → Grew w z → AreImagesOf F v w images → TellsOf F v z images reply

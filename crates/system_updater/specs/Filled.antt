@@ -1,6 +1,6 @@
 -- What the images of a slot are made of: where it was sealed, or an image has another sum, the bytes of an image are
 -- those of the file that its URL names.
-use Rattle.std.specs.Prelude.{◌≡◌, ◌≢◌, ◌≤◌, ◌⊎◌, ℕ, List, [], ◌++◌, length, Option, Some, Ok, Err, Result, IfSome}
+use Rattle.std.specs.Prelude.{◌≡◌, ◌≢◌, ◌≤◌, ◌⊎◌, ℕ, List, [], ◌++◌, length, Option, Some, None, Ok, Err, Result}
 use Rattle.image_layout.specs.declared.ImageKind.{ImageKind}
 use Rattle.image_layout.specs.declared.ImageKind.TheVariants as kinds
 use Rattle.image_layout.specs.declared.ImageSum.{ImageSum}
@@ -76,11 +76,15 @@ pub record IsFileOf (firm : Type 0) (old new : View) (url : Url) (sum : ImageSum
   pub front : new.seen ≡ seen ++ later
   pub is : IsSumOf firm (after new.origin seen) (found (after new.origin seen) new.lane from.number file) sum
 
--- of the image of this kind; where there is no vbmeta, nothing is copied for it
+-- of the vbmeta; where there is none, the image stays empty
+abbrev pub IsVbmetaOf : Type 0 → View → View → Option ImageRef → ImageSum → Type 0
+IsVbmetaOf firm old new None sum = sum ≡ image_sum []
+IsVbmetaOf firm old new (Some image) sum = IsFileOf firm old new image.url sum
+
+-- of the image of this kind
 abbrev pub IsImageOf : Type 0 → View → View → Images → ImageKind → ImageSum → Type 0
 IsImageOf firm old new images kinds.Zbi sum = IsFileOf firm old new images.zbi.url sum
-IsImageOf firm old new images kinds.Vbmeta sum =
-    IfSome images.vbmeta (λ (image : ImageRef). IsFileOf firm old new image.url sum)
+IsImageOf firm old new images kinds.Vbmeta sum = IsVbmetaOf firm old new images.vbmeta sum
 
 -- the sums of the manifest are those of the files that it names
 abbrev pub AreImagesOf : Type 0 → View → View → Images → Type 0
@@ -96,7 +100,7 @@ TellsOf firm old new images (replies.NotASystem why) = AreImagesOf firm old new 
 TellsOf firm old new images (replies.Differs kind got) = IsImageOf firm old new images kind got
 TellsOf firm old new images reply = Unit {0}
 
--- no image was judged before this reply
+-- the reply tells nothing of the images
 abbrev pub IsEarly : UpdateReply → Type 0
 IsEarly (replies.Staged slot) = ⊥
 IsEarly (replies.BaseMissing root) = ⊥
@@ -151,10 +155,14 @@ pub record HasFileOf (firm : Type 0) (kept : Kept) (old new : View) (kind : Imag
   pub resolved : Did old new (λ part. resolve.Serves url.path url.pin part (resolved.Resolved from))
   pub is : HasBytesOf firm kept new kind from.number file
 
+-- where there is no vbmeta, its image is empty
+abbrev pub HasVbmetaOf : Type 0 → Kept → View → View → Option ImageRef → Type 0
+HasVbmetaOf firm kept old new None = kept (Image kinds.Vbmeta) []
+HasVbmetaOf firm kept old new (Some image) = HasFileOf firm kept old new kinds.Vbmeta image.url
+
 abbrev pub HaveFilesOf : Type 0 → Kept → View → View → Images → Type 0
 HaveFilesOf firm kept old new images =
-    HasFileOf firm kept old new kinds.Zbi images.zbi.url
-    × IfSome images.vbmeta (λ (image : ImageRef). HasFileOf firm kept old new kinds.Vbmeta image.url)
+    HasFileOf firm kept old new kinds.Zbi images.zbi.url × HasVbmetaOf firm kept old new images.vbmeta
 
 -- what was kept of the other image is kept
 abbrev pub KeepsOther : ImageKind → Kept → Kept → Type 0
@@ -187,7 +195,7 @@ IsBegun kept v kind dir file = kept (Image kind) [] ⊎ IsCopiedTo kept v kind d
 
 -- ---- by result
 
--- it is so, or the refusal is early
+-- it is so, or the refusal tells nothing of the images
 abbrev pub OrEarly : {A : Type 0} → (A → Type 0) → Result A UpdateReply → Type 0
 OrEarly P (Ok x) = P x
 OrEarly P (Err reply) = IsEarly reply

@@ -26,8 +26,8 @@ told listing files faults fetches =
     record { listing = listing; files = files; faults = faults; fetches = fetches }
 
 -- The lane did this between two moments. What it had seen is the front of what it has seen, and its claim stays. The
--- repository was asked once for each grant, it failed as often as the events say, and they fit what it tells, which
--- stays. Of the desk something else is so at both moments or at neither.
+-- repository was asked once for each grant, it failed at least as often as the events say, and they fit what it tells,
+-- which stays. Of the desk something else is so at both moments or at neither.
 pub record Does (run : List Numbered) (old new : View) (repo repo_now : Told) (Before After : Type 0) : Type 0 where
   pub stays : Stays old new
   pub agrees : Agrees old → Agrees new
@@ -45,7 +45,7 @@ pub record Does (run : List Numbered) (old new : View) (repo repo_now : Told) (B
 
 -- What the lane did is one run that updates to the package, and the reply is the run's. What it had seen is the front
 -- of what it has seen, and it holds what it held. The repository was asked once for each grant of the run, it failed
--- as often as the run says, and the run fits what it tells, which stays.
+-- at least as often as the run says, and the run fits what it tells, which stays.
 pub record Updates (path : NameAndVariant) (pin : Option Root) (reply : UpdateReply) (old new : View)
     (repo repo_now : Told) : Type 0 where
   pub stays : Stays old new

@@ -4,12 +4,16 @@ ghost use Rattle.std.specs.Prelude.{List, Option};
 ghost use Rattle.abr_record.specs.declared.Slot.{Slot as SlotOf};
 ghost use Rattle.pkg_names.specs.NameAndVariant.{NameAndVariant};
 ghost use Rattle.pkg_names.specs.declared.root.Root.{Root};
+ghost use Rattle.store_model.specs.Desk.{View as ViewOf, state_of};
 ghost use Rattle.store_model.specs.History.{Numbered};
+ghost use Rattle.store_model.specs.Lanes.{HoldsSame};
+ghost use Rattle.resolver.specs.Viewing.{Agrees};
 ghost use Rattle.system_updater.specs.declared.reply.UpdateReply.{UpdateReply as ReplyOf};
 ghost use Rattle.system_updater.specs.declared.reply.UpdateReply.TheVariants as replies;
 ghost use Rattle.system_updater.specs.Serving.{Serves};
 ghost use Rattle.system_updater.specs.Laws.{IsInOrder};
 ghost use Rattle.system_updater.specs.Causes.{HasCause};
+ghost use Rattle.system_updater.specs.Viewing.{Told as ToldOf, Updates};
 
 use update_manifest::images_name_files;
 
@@ -28,3 +32,11 @@ pub fn replies_have_causes()
 {
     images_name_files();
 }
+
+/// An update leaves nothing of its own in the store: at its end the state has those claims, tickets and directories of
+/// the lane, and that update, which it had at its begin, whatever other lanes did.
+pub fn updates_leave_nothing()
+    ensures { (path : NameAndVariant) (pin : Option Root) (reply : ReplyOf) (old new : ViewOf) (repo repo_now : ToldOf)
+        → Updates path pin reply old new repo repo_now → Agrees old
+        → HoldsSame old.lane (state_of old) (state_of new) }
+{}

@@ -14,6 +14,6 @@ mod reply;
 mod system;
 mod updating;
 
-pub use laws::{replies_have_causes, staged_updates_are_in_order};
+pub use laws::{replies_have_causes, staged_updates_are_in_order, updates_leave_nothing};
 pub use reply::UpdateReply;
 pub use updating::update;

@@ -1,6 +1,8 @@
-use Rattle.std.proofs.Common.{◌≡◌, ◌∙◌, arith}
-use Rattle.repo_publish.specs.declared.publishing.PublishEnd.TheVariants.{TreeFault, SinkFault}
-use Rattle.repo_publish.proofs.Gathered.{more_gathered, ends_here, never_so_many, not_tree, not_sink}
+use Rattle.std.proofs.Common.{◌≡◌, ◌∙◌, false, arith}
+use Rattle.repo_publish.specs.declared.publishing.PublishEnd.TheVariants.{SinkFault}
+use Rattle.repo_publish.specs.Steps.{is_post_fault, is_tree_fault}
+use Rattle.repo_publish.proofs.Faults.{fails_then, none_then, file_is_no_fault}
+use Rattle.repo_publish.proofs.Gathered.{more_gathered, ends_here, never_so_many, not_sink}
 use Rattle.repo_publish.proofs.files.gather.Goals as goal
 
 pub returns-in-Err-clause-end : goal.returns-in-Err-clause-end
@@ -9,11 +11,16 @@ returns-in-Err-clause-end g c =
     ends_here c.loop-count._count (g.T.Tree.left c.args.tree.now) (g.T.Tree.left c.loop-count.tree) (g.T.Tree.left c.next.new.self) (g.P.Post.files c.args.post.now) (g.P.Post.files c.loop-count.post)
     draft.inner.items draft.contents draft.last c.loop-count.invariant.way c.in-File.file c.in-Err.end c.in-File.ensures.took c.in-Err.ensures.end
 
-pub returns-in-Err-clause-tree_cause : goal.returns-in-Err-clause-tree_cause
-returns-in-Err-clause-tree_cause g c =
+pub returns-in-Err-clause-tree_faults : goal.returns-in-Err-clause-tree_faults
+returns-in-Err-clause-tree_faults g c =
     let way = c.loop-count.invariant.way in
-    λ e. let same : c.in-Err.end ≡ TreeFault = cc in
-    absurd (not_tree way.done c.in-File.file c.in-Err.end (c.in-Err.ensures.end way.done way.taken) same)
+    none_then (is_tree_fault c.in-Err.end) (g.T.Tree.faults c.args.tree.now) (g.T.Tree.faults c.loop-count.tree) (g.T.Tree.faults c.next.new.self)
+    c.loop-count.invariant.tree_faults (file_is_no_fault way.done c.in-File.file c.in-Err.end (c.in-Err.ensures.end way.done way.taken)) c.in-File.ensures.faults
+
+pub returns-in-Err-clause-post_faults : goal.returns-in-Err-clause-post_faults
+returns-in-Err-clause-post_faults g c =
+    fails_then (is_post_fault c.in-Err.end) (g.P.Post.faults c.args.post.now) (g.P.Post.faults c.loop-count.post) (g.P.Post.faults c.take.new.post)
+    c.loop-count.invariant.post_faults c.in-Err.ensures.faults
 
 pub returns-in-Err-clause-no_sink : goal.returns-in-Err-clause-no_sink
 returns-in-Err-clause-no_sink g c =
@@ -32,9 +39,9 @@ loop-count-preserved g c =
           c.in-File.ensures.took c.in-Ok.ensures.taken is.files_told c.in-Ok.ensures.posts;
       listing = c.take.ensures.listing ∙ is.listing;
       files_told = c.take.ensures.files_told ∙ is.files_told;
-      faults = omega (arith, is.faults, c.take.ensures.faults);
+      post_faults = fails_then false (g.P.Post.faults c.args.post.now) (g.P.Post.faults c.loop-count.post) (g.P.Post.faults c.take.new.post) is.post_faults c.in-Ok.ensures.faults;
       list_faults = c.take.ensures.list_faults ∙ is.list_faults;
-      tree_faults = omega (arith, is.tree_faults, c.next.ensures.faults);
+      tree_faults = fails_then false (g.T.Tree.faults c.args.tree.now) (g.T.Tree.faults c.loop-count.tree) (g.T.Tree.faults c.next.new.self) is.tree_faults c.in-File.ensures.faults;
       tree_told = c.next.ensures.told ∙ is.tree_told;
     }
 

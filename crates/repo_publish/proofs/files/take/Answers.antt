@@ -1,19 +1,21 @@
-use Rattle.std.proofs.Common.{◌≡◌, ◌∷◌, ◌++◌, [], true, false, List, ℕ, Some, None, sym, ap, subst, ◌∙◌}
+use Rattle.std.proofs.Common.{◌≡◌, ◌∷◌, ◌++◌, [], Bool, true, false, List, ℕ, Some, None, sym, ap, subst, ◌∙◌}
 use Rattle.far_archive.specs.declared.write.FarEntry.{FarEntry}
 use Rattle.meta_contents.specs.Contents.{Pair, is_in_meta}
-use Rattle.repo_publish.specs.declared.publishing.PublishEnd.TheVariants.{PostFault}
+use Rattle.repo_source.specs.Repo.{Fails}
+use Rattle.repo_source.proofs.Faults.{failed_same}
 use Rattle.repo_publish.specs.Refusals.{file_refusal}
-use Rattle.repo_publish.specs.Steps.{IsTaken, IsRefusal}
+use Rattle.repo_publish.specs.Steps.{IsTaken}
+use Rattle.repo_publish.proofs.Faults.{refusal_is_no_fault}
 use Rattle.repo_publish.proofs.Fine.{is_refusal}
 use Rattle.repo_publish.proofs.Taken.{room_outer, fresh_outer, small_file, taken_inner, taken_outer}
 use Rattle.repo_publish.proofs.files.take.Goals as goal
 
-pub returns-in-Some-clause-cause : goal.returns-in-Some-clause-cause
-returns-in-Some-clause-cause g c =
+pub returns-in-Some-clause-faults : goal.returns-in-Some-clause-faults
+returns-in-Some-clause-faults g c =
     let done = c.requires.taken.0 in
+    let faults = g.P.Post.faults c.args.post.now in
     let refused : file_refusal done c.args.file ≡ Some c.in-Some.end = sym (c.refusal.ensures done c.requires.taken.1) ∙ c.in-Some.is in
-    λ e. let same : c.in-Some.end ≡ PostFault = cc in
-    absurd (subst IsRefusal same (is_refusal done c.args.file c.in-Some.end refused))
+    subst (λ (b : Bool). Fails b faults faults) (sym (refusal_is_no_fault c.in-Some.end (is_refusal done c.args.file c.in-Some.end refused))) (failed_same faults)
 
 pub returns-in-Ok-push-clause-taken : goal.returns-in-Ok-push-clause-taken
 returns-in-Ok-push-clause-taken g c =

@@ -10,7 +10,8 @@ use Rattle.store_model.proofs.CallsHeld.{roomed, missed}
 use Rattle.resolver.specs.declared.reply.ResolveReply.TheVariants as replies
 use Rattle.resolver.specs.Serving.Point.{Granted, Roomy, Giving}
 use Rattle.resolver.specs.Steps.{Goes, Fills, after_fetch}
-use Rattle.resolver.proofs.Goes.{goes_then, failed_same}
+use Rattle.repo_source.proofs.Faults.{failed_same}
+use Rattle.resolver.proofs.Goes.{goes_then}
 use Rattle.resolver.proofs.Desks.{room_goes, granted_misses}
 use Rattle.resolver.proofs.Filling.{has_declared, fills_first}
 use Rattle.resolver.proofs.Handles.{claim_held, claim_stays, room_made}

@@ -9,7 +9,8 @@ use Rattle.store_model.specs.Calls.{room_by}
 use Rattle.store_model.proofs.CallsHeld.{landed, missed}
 use Rattle.resolver.specs.declared.reply.ResolveReply.TheVariants as replies
 use Rattle.resolver.specs.Serving.Point.{Roomy, Giving}
-use Rattle.resolver.proofs.Goes.{goes_then, failed_same}
+use Rattle.repo_source.proofs.Faults.{failed_same}
+use Rattle.resolver.proofs.Goes.{goes_then}
 use Rattle.resolver.proofs.Desks.{land_goes, roomy_misses}
 use Rattle.resolver.proofs.Handles.{claim_stays, room_held}
 use Rattle.resolver.proofs.pieces.land.Goals as goal

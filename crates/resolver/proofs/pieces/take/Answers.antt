@@ -6,7 +6,8 @@ use Rattle.store_model.specs.HeldAfter.{without_claim}
 use Rattle.store_model.specs.Desk.{Kept}
 use Rattle.resolver.specs.Serving.Point.{Roomy}
 use Rattle.resolver.specs.Steps.{Goes, Fills, after_fetch}
-use Rattle.resolver.proofs.Goes.{goes_none, goes_on, failed_same}
+use Rattle.repo_source.proofs.Faults.{failed_same}
+use Rattle.resolver.proofs.Goes.{goes_none, goes_on}
 use Rattle.resolver.proofs.Handles.{images_then, iff_then, claim_with}
 use Rattle.resolver.proofs.pieces.take.Goals as goal
 

@@ -1,7 +1,8 @@
 use Rattle.std.proofs.Common.{refl}
 use Rattle.resolver.specs.declared.reply.ResolveReply.TheVariants as replies
 use Rattle.resolver.specs.Serving.Point.{Asking}
-use Rattle.resolver.proofs.Goes.{goes_none, failed_same}
+use Rattle.repo_source.proofs.Faults.{failed_same}
+use Rattle.resolver.proofs.Goes.{goes_none}
 use Rattle.resolver.proofs.Whole.{whole_told, alone}
 use Rattle.resolver.proofs.resolving.resolve.Goals as goal
 

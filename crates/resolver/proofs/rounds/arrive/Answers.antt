@@ -7,7 +7,8 @@ use Rattle.store_model.proofs.CallsHandles.{ticket_stays}
 use Rattle.resolver.specs.Serving.{ticket_for}
 use Rattle.resolver.specs.Serving.Point.{Waiting}
 use Rattle.resolver.specs.Steps.{Fetches, after_arrival, held_after_arrival}
-use Rattle.resolver.proofs.Goes.{goes_none, fetches_on, failed_same}
+use Rattle.repo_source.proofs.Faults.{failed_same}
+use Rattle.resolver.proofs.Goes.{goes_none, fetches_on}
 use Rattle.resolver.proofs.Handles.{images_then, iff_then}
 use Rattle.resolver.proofs.rounds.arrive.Goals as goal
 

@@ -75,9 +75,11 @@ returns-in-Some-clause-images g c = λ dir plan at zbi vbmeta.
 
 pub returns-clause-images : goal.returns-clause-images
 returns-clause-images g c = λ dir plan at zbi vbmeta.
-    let at_zbi = subst (λ p. HoldsAt p (g.K.Desk.view c.args.desk.now)) (ap (Filling dir plan) (none_of c.args.images c.in-None.is)) at in (
-      (c.in_ok-fill.ensures.images dir plan [] at_zbi zbi).0,
-      without_vbmeta (g.K.Desk.firm c.args.desk.now) (g.K.Desk.kept c.fill.new.desk) (g.K.Desk.view c.args.desk.now) (g.K.Desk.view c.fill.new.desk) c.args.images.vbmeta c.in-None.is,
+    let at_zbi = subst (λ p. HoldsAt p (g.K.Desk.view c.args.desk.now)) (ap (Filling dir plan) (none_of c.args.images c.in-None.is)) at in
+    let first = c.in_ok-fill.ensures.images dir plan [] at_zbi zbi in (
+      first.0,
+      without_vbmeta (g.K.Desk.firm c.args.desk.now) (g.K.Desk.kept c.fill.new.desk) (g.K.Desk.view c.args.desk.now) (g.K.Desk.view c.fill.new.desk) c.args.images.vbmeta c.in-None.is
+          (first.1 kinds.Vbmeta [] (λ same. cc same) vbmeta),
     )
 
 pub returns-in_err-fill-clause-images : goal.returns-in_err-fill-clause-images

@@ -1,7 +1,8 @@
+use Rattle.std.proofs.Common.{refl}
 use Rattle.store_model.specs.Replies.{IsChecked}
 use Rattle.plain_desk.proofs.Stores.{answered, tells, rests}
 use Rattle.plain_desk.proofs.Answered.{checks}
-use Rattle.plain_desk.proofs.Own.{apart, by_event}
+use Rattle.plain_desk.proofs.Own.{apart, by_event, left_same, own_call}
 use Rattle.plain_desk.proofs.store.Store.check.Goals as goal
 use Rattle.plain_desk.proofs.store.Store.check.Goals.{in-Ok, in-Err}
 
@@ -15,4 +16,4 @@ returns-clause-event c = λ tie. elim c.match-check.branch [
 ]
 
 pub returns-clause-own : goal.returns-clause-own
-returns-clause-own c = apart c.args.lane c.self.inside.ledger c.check.new.ledger c.check.result c.self.view_is (λ a t. by_event c.self.view_is t.notes) c.check.ensures.ok c.check.ensures.err
+returns-clause-own c = own_call c.args.lane c.self.inside.ledger c.self.view_is (left_same refl) (apart c.args.lane c.self.inside.ledger c.check.new.ledger c.check.result c.self.view_is (λ a t. by_event c.self.view_is t.notes t.its.steady) c.check.ensures.ok c.check.ensures.err)

@@ -3,12 +3,12 @@ use Rattle.store_model.specs.Replies.{IsClosed}
 use Rattle.store_model.specs.declared.events.Act.TheVariants as acts
 use Rattle.store_model.specs.declared.replies.CloseReply.TheVariants as close
 use Rattle.plain_desk.proofs.Stores.{moved, notes_moves, stays_moves, either, does, rests, not_open}
-use Rattle.plain_desk.proofs.Own.{apart, by_event}
+use Rattle.plain_desk.proofs.Own.{apart, by_event, left_same, own_call}
 use Rattle.plain_desk.proofs.store.Store.close.Goals as goal
 use Rattle.plain_desk.proofs.store.Store.close.Goals.{in-Ok-true, in-Ok-false, in-Err}
 
 pub invariant_of-self : goal.invariant_of-self
-invariant_of-self c = either c.close.result (λ u n. moved c.self.invariant (notes_moves n refl refl))
+invariant_of-self c = either c.close.result (λ u n. moved c.self.invariant (notes_moves n refl refl refl))
     (λ s. moved c.self.invariant (stays_moves s)) c.close.ensures.ok c.close.ensures.err
 
 pub returns-clause-event : goal.returns-clause-event
@@ -19,4 +19,4 @@ returns-clause-event c = λ tie. elim c.match-close.branch [
 ]
 
 pub returns-clause-own : goal.returns-clause-own
-returns-clause-own c = apart c.args.lane c.self.inside.ledger c.close.new.self c.close.result c.self.view_is (λ a n. by_event c.self.view_is n) c.close.ensures.ok c.close.ensures.err
+returns-clause-own c = own_call c.args.lane c.self.inside.ledger c.self.view_is (left_same refl) (apart c.args.lane c.self.inside.ledger c.close.new.self c.close.result c.self.view_is (λ a n. by_event c.self.view_is n refl) c.close.ensures.ok c.close.ensures.err)

@@ -1,7 +1,8 @@
+use Rattle.std.proofs.Common.{refl}
 use Rattle.store_model.specs.Replies.{IsCommitted}
 use Rattle.plain_desk.proofs.Stores.{answered, tells, rests}
 use Rattle.plain_desk.proofs.Filled.{commits}
-use Rattle.plain_desk.proofs.Own.{apart, by_event}
+use Rattle.plain_desk.proofs.Own.{apart, by_event, left_same, own_call}
 use Rattle.plain_desk.proofs.store.Store.commit.Goals as goal
 use Rattle.plain_desk.proofs.store.Store.commit.Goals.{in-Ok, in-Err}
 
@@ -15,4 +16,4 @@ returns-clause-event c = λ tie. elim c.match-commit.branch [
 ]
 
 pub returns-clause-own : goal.returns-clause-own
-returns-clause-own c = apart c.args.lane c.self.inside.ledger c.commit.new.ledger c.commit.result c.self.view_is (λ a t. by_event c.self.view_is t.notes) c.commit.ensures.ok c.commit.ensures.err
+returns-clause-own c = own_call c.args.lane c.self.inside.ledger c.self.view_is (left_same refl) (apart c.args.lane c.self.inside.ledger c.commit.new.ledger c.commit.result c.self.view_is (λ a t. by_event c.self.view_is t.notes t.its.steady) c.commit.ensures.ok c.commit.ensures.err)

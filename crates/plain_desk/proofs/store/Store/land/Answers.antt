@@ -5,10 +5,10 @@ use Rattle.store_model.specs.Replies.{IsLanded}
 use Rattle.store_model.specs.declared.replies.LandReply.TheVariants as land
 use Rattle.fetch_queue.specs.declared.FetchEnd.{FetchEnd}
 use Rattle.plain_desk.specs.Stores.{StoreOf, view_of}
-use Rattle.plain_desk.proofs.Stores.{here, rests, view_at}
+use Rattle.plain_desk.proofs.Stores.{either, here, rests, view_at}
 use Rattle.plain_desk.proofs.Claims.{has_room}
 use Rattle.plain_desk.proofs.Landing.{land_made, landed, landing_ended, stored_as}
-use Rattle.plain_desk.proofs.Own.{apart, landed_apart}
+use Rattle.plain_desk.proofs.Own.{apart, landed_apart, left_by, left_same, own_call}
 use Rattle.plain_desk.proofs.store.Store.land.Goals as goal
 use Rattle.plain_desk.proofs.store.Store.land.Goals.{in-Ok-None, in-Ok-Some, in-Err}
 
@@ -34,4 +34,4 @@ returns-clause-event c = λ tie. elim c.match-land.branch [
 ]
 
 pub returns-clause-own : goal.returns-clause-own
-returns-clause-own c = apart c.args.lane c.self.inside.ledger c.land.new.ledger c.land.result c.self.view_is (λ end so. landed_apart c.args.lane c.self.inside.ledger c.land.new.ledger c.args.claim.root _ _ c.self.view_is end so) c.land.ensures.ok c.land.ensures.err
+returns-clause-own c = own_call c.args.lane c.self.inside.ledger c.self.view_is (either c.land.result (λ end d. left_by d) (λ same. left_same same) c.land.ensures.ended c.land.ensures.kept) (apart c.args.lane c.self.inside.ledger c.land.new.ledger c.land.result c.self.view_is (λ end so. landed_apart c.args.lane c.self.inside.ledger c.land.new.ledger c.args.claim.root _ _ c.self.view_is end so) c.land.ensures.ok c.land.ensures.err)

@@ -1,7 +1,8 @@
+use Rattle.std.proofs.Common.{refl}
 use Rattle.store_model.specs.Replies.{IsOpened}
 use Rattle.plain_desk.proofs.Stores.{answered, tells, rests}
 use Rattle.plain_desk.proofs.Answered.{opens}
-use Rattle.plain_desk.proofs.Own.{apart, by_event}
+use Rattle.plain_desk.proofs.Own.{apart, by_event, left_same, own_call}
 use Rattle.plain_desk.proofs.store.Store.open_path.Goals as goal
 use Rattle.plain_desk.proofs.store.Store.open_path.Goals.{in-Ok, in-Err}
 
@@ -15,4 +16,4 @@ returns-clause-event c = λ tie. elim c.match-open.branch [
 ]
 
 pub returns-clause-own : goal.returns-clause-own
-returns-clause-own c = apart c.args.lane c.self.inside.ledger c.open.new.ledger c.open.result c.self.view_is (λ a t. by_event c.self.view_is t.notes) c.open.ensures.ok c.open.ensures.err
+returns-clause-own c = own_call c.args.lane c.self.inside.ledger c.self.view_is (left_same refl) (apart c.args.lane c.self.inside.ledger c.open.new.ledger c.open.result c.self.view_is (λ a t. by_event c.self.view_is t.notes t.its.steady) c.open.ensures.ok c.open.ensures.err)

@@ -5,7 +5,7 @@ use Rattle.store_model.specs.declared.replies.PutReply.TheVariants as put
 use Rattle.plain_desk.specs.Stores.{StoreOf, view_of}
 use Rattle.plain_desk.proofs.Stores.{does, here, rests, same_stays, unbroken_at}
 use Rattle.plain_desk.proofs.Claims.{has_room, put_made}
-use Rattle.plain_desk.proofs.Own.{by_event, put_apart}
+use Rattle.plain_desk.proofs.Own.{by_event, left_put, own_call, put_apart}
 use Rattle.plain_desk.proofs.store.Store.put.Goals as goal
 use Rattle.plain_desk.proofs.store.Store.put.Goals.{in-None, in-Some}
 
@@ -27,4 +27,4 @@ returns-clause-event c = λ tie. elim c.match-put.branch [
 ]
 
 pub returns-clause-own : goal.returns-clause-own
-returns-clause-own c = put_apart c.args.lane c.self.inside.ledger c.put.new.ledger c.put.result c.self.view_is (λ a n. by_event c.self.view_is n) c.put.ensures.event
+returns-clause-own c = own_call c.args.lane c.self.inside.ledger c.self.view_is (left_put c.args.lane _ _ _ _ c.put.result c.put.ensures.drafts) (put_apart c.args.lane c.self.inside.ledger c.put.new.ledger c.put.result c.self.view_is (λ a n. by_event c.self.view_is n refl) c.put.ensures.event)

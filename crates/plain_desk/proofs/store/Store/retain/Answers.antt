@@ -1,8 +1,8 @@
-use Rattle.std.proofs.Common.{length}
+use Rattle.std.proofs.Common.{refl, length}
 use Rattle.store_model.specs.Replies.{IsRetained}
 use Rattle.plain_desk.proofs.Stores.{answered, tells, rests}
 use Rattle.plain_desk.proofs.Answered.{retains}
-use Rattle.plain_desk.proofs.Own.{apart, by_event}
+use Rattle.plain_desk.proofs.Own.{apart, by_event, left_same, own_call}
 use Rattle.plain_desk.proofs.store.Store.retain.Goals as goal
 use Rattle.plain_desk.proofs.store.Store.retain.Goals.{in-Ok, in-Err}
 
@@ -16,4 +16,4 @@ returns-clause-event c = λ tie. elim c.match-retain.branch [
 ]
 
 pub returns-clause-own : goal.returns-clause-own
-returns-clause-own c = apart c.args.lane c.self.inside.ledger c.retain.new.ledger c.retain.result c.self.view_is (λ a t. by_event c.self.view_is t.notes) c.retain.ensures.ok c.retain.ensures.err
+returns-clause-own c = own_call c.args.lane c.self.inside.ledger c.self.view_is (left_same refl) (apart c.args.lane c.self.inside.ledger c.retain.new.ledger c.retain.result c.self.view_is (λ a t. by_event c.self.view_is t.notes t.its.steady) c.retain.ensures.ok c.retain.ensures.err)

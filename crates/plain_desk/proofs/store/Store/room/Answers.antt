@@ -4,9 +4,9 @@ use Rattle.store_model.specs.Calls.{HoldsNewClaim}
 use Rattle.store_model.specs.declared.events.Act.TheVariants as acts
 use Rattle.store_model.specs.declared.replies.RoomReply.TheVariants as room
 use Rattle.plain_desk.specs.Stores.{StoreOf, view_of}
-use Rattle.plain_desk.proofs.Stores.{does, here, rests}
+use Rattle.plain_desk.proofs.Stores.{does, either, here, rests}
 use Rattle.plain_desk.proofs.Claims.{roomless, room_made}
-use Rattle.plain_desk.proofs.Own.{apart, by_event}
+use Rattle.plain_desk.proofs.Own.{apart, by_event, left_by, own_call}
 use Rattle.plain_desk.proofs.store.Store.room.Goals as goal
 use Rattle.plain_desk.proofs.store.Store.room.Goals.{in-Ok-None, in-Ok-Some, in-Err}
 
@@ -32,4 +32,4 @@ returns-clause-event c = λ tie. elim c.match-room.branch [
 ]
 
 pub returns-clause-own : goal.returns-clause-own
-returns-clause-own c = apart c.args.lane c.self.inside.ledger c.room.new.ledger c.room.result c.self.view_is (λ a n. by_event c.self.view_is n) c.room.ensures.ok c.room.ensures.err
+returns-clause-own c = own_call c.args.lane c.self.inside.ledger c.self.view_is (either c.room.result (λ end d. left_by d) (λ d. left_by d) c.room.ensures.room c.room.ensures.none) (apart c.args.lane c.self.inside.ledger c.room.new.ledger c.room.result c.self.view_is (λ a n. by_event c.self.view_is n refl) c.room.ensures.ok c.room.ensures.err)

@@ -1,7 +1,8 @@
+use Rattle.std.proofs.Common.{refl}
 use Rattle.store_model.specs.Replies.{IsSealed}
 use Rattle.plain_desk.proofs.Stores.{answered, tells, rests}
 use Rattle.plain_desk.proofs.Filled.{all_kept, held_phase, seal_keeps, seals}
-use Rattle.plain_desk.proofs.Own.{apart, by_event}
+use Rattle.plain_desk.proofs.Own.{apart, by_event, left_same, own_call}
 use Rattle.plain_desk.proofs.store.Store.seal.Goals as goal
 use Rattle.plain_desk.proofs.store.Store.seal.Goals.{in-Ok, in-Err}
 
@@ -24,4 +25,4 @@ returns-clause-kept c = elim c.match-seal.branch [
 ]
 
 pub returns-clause-own : goal.returns-clause-own
-returns-clause-own c = apart c.args.lane c.self.inside.ledger c.seal.new.ledger c.seal.result c.self.view_is (λ a t. by_event c.self.view_is t.notes) c.seal.ensures.ok c.seal.ensures.err
+returns-clause-own c = own_call c.args.lane c.self.inside.ledger c.self.view_is (left_same refl) (apart c.args.lane c.self.inside.ledger c.seal.new.ledger c.seal.result c.self.view_is (λ a t. by_event c.self.view_is t.notes t.its.steady) c.seal.ensures.ok c.seal.ensures.err)

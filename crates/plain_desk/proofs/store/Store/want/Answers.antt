@@ -8,7 +8,7 @@ use Rattle.store_model.specs.declared.replies.WantReply.TheVariants as want
 use Rattle.plain_desk.specs.Stores.{StoreOf, len_of, view_of}
 use Rattle.plain_desk.proofs.Stores.{moved, notes_moves, stays_moves, either, does, rests, here, rests_still, unbroken_at}
 use Rattle.plain_desk.proofs.Wants.{answers, want_due, quiet, may_go_on_still}
-use Rattle.plain_desk.proofs.Own.{apart, by_event}
+use Rattle.plain_desk.proofs.Own.{apart, by_event, left_same, own_call}
 use Rattle.plain_desk.proofs.store.Store.want.Goals as goal
 use Rattle.plain_desk.proofs.store.Store.want.Goals.{in-Ok, in-Err, in-Ok-grant, in-Err-grant}
 
@@ -31,14 +31,14 @@ grant-requires c = want_due c.self.inside.ledger c.args.lane c.args.ticket (want
     (answers c.args.ticket c.state.ensures c.want_answer.ensures ∙ c.in-Some-Fetch.is ∙ ap Some c.in-Some-Fetch.field-0-is)
 
 pub invariant_of-self : goal.invariant_of-self
-invariant_of-self c = moved c.self.invariant (notes_moves c.fail.ensures refl refl)
+invariant_of-self c = moved c.self.invariant (notes_moves c.fail.ensures refl refl refl)
 
 pub invariant_of-self-in-Some-Opened : goal.invariant_of-self-in-Some-Opened
-invariant_of-self-in-Some-Opened c = either c.open_ticket.result (λ u n. moved c.self.invariant (notes_moves n.1 refl refl))
+invariant_of-self-in-Some-Opened c = either c.open_ticket.result (λ u n. moved c.self.invariant (notes_moves n.1 refl refl refl))
     (λ s. moved c.self.invariant (stays_moves s)) c.open_ticket.ensures.ok c.open_ticket.ensures.err
 
 pub invariant_of-self-in-Some-Fetch : goal.invariant_of-self-in-Some-Fetch
-invariant_of-self-in-Some-Fetch c = either c.grant.result (λ u n. moved c.self.invariant (notes_moves n refl (sym (ap len_of (here c.self.inside.ledger (λ (s : StoreOf). HoldsNoClaim (view_of [] c.args.lane s)) c.self.view_is c.requires.free)))))
+invariant_of-self-in-Some-Fetch c = either c.grant.result (λ u n. moved c.self.invariant (notes_moves n refl (sym (ap len_of (here c.self.inside.ledger (λ (s : StoreOf). HoldsNoClaim (view_of [] c.args.lane s)) c.self.view_is c.requires.free))) refl))
     (λ s. moved c.self.invariant (stays_moves s)) c.grant.ensures.ok c.grant.ensures.err
 
 pub returns-in-Some-Failed-clause-event : goal.returns-in-Some-Failed-clause-event
@@ -80,10 +80,10 @@ returns-in-None-clause-event c = λ tie.
     )
 
 pub returns-in-Some-Failed-clause-own : goal.returns-in-Some-Failed-clause-own
-returns-in-Some-Failed-clause-own c = by_event c.self.view_is c.fail.ensures
+returns-in-Some-Failed-clause-own c = own_call c.args.lane c.self.inside.ledger c.self.view_is (left_same refl) (by_event c.self.view_is c.fail.ensures refl)
 
 pub returns-after-open_ticket-clause-own : goal.returns-after-open_ticket-clause-own
-returns-after-open_ticket-clause-own c = apart c.args.lane c.self.inside.ledger c.open_ticket.new.self c.open_ticket.result c.self.view_is (λ a n. by_event c.self.view_is n.1) c.open_ticket.ensures.ok c.open_ticket.ensures.err
+returns-after-open_ticket-clause-own c = own_call c.args.lane c.self.inside.ledger c.self.view_is (left_same refl) (apart c.args.lane c.self.inside.ledger c.open_ticket.new.self c.open_ticket.result c.self.view_is (λ a n. by_event c.self.view_is n.1 refl) c.open_ticket.ensures.ok c.open_ticket.ensures.err)
 
 pub returns-after-grant-clause-own : goal.returns-after-grant-clause-own
-returns-after-grant-clause-own c = apart c.args.lane c.self.inside.ledger c.grant.new.self c.grant.result c.self.view_is (λ a n. by_event c.self.view_is n) c.grant.ensures.ok c.grant.ensures.err
+returns-after-grant-clause-own c = own_call c.args.lane c.self.inside.ledger c.self.view_is (left_same refl) (apart c.args.lane c.self.inside.ledger c.grant.new.self c.grant.result c.self.view_is (λ a n. by_event c.self.view_is n refl) c.grant.ensures.ok c.grant.ensures.err)
