@@ -31,6 +31,7 @@ pub(crate) fn make_scene(
     url: &[u8],
 ) -> Result<Scene, Fail>
     ensures fresh { IfOk result (λ scene. of_lane 1 scene.store.history ≡ []) }
+    ensures other { IfOk result (λ scene. of_lane 2 scene.store.history ≡ []) }
     ensures no_file { IfOk result (λ scene. scene.url.file ≡ None) }
 {
     let store = base_store(alloc)?;
