@@ -9,6 +9,7 @@ use package_shop::Shop;
 use pkg_merkle::BYTES_LIMIT;
 use pkg_names::{Bytes, Root};
 use plain_desk::{Opening, Store, StoredBlobs};
+use plain_drafts::Images;
 use plain_state::Standing;
 use repo_source::RepoFile;
 use sha2::{Digest, Sha256};
@@ -47,7 +48,7 @@ pub fn store_in(
     }
     let (stock, contents) = blobs.into_parts();
     let standing = Standing::make(stock, factory(), Some(system(root, 1)), None);
-    match Store::open(alloc, geometry, standing, contents)? {
+    match Store::open(alloc, geometry, standing, contents, Images::new(alloc))? {
         Opening::Booted(store) => Ok(store),
         _ => Err(Fail::new("no boot")),
     }

@@ -22,6 +22,7 @@ pub(crate) fn stage<K: Desk>(desk: &mut K, hand: Hand, epoch: u64) -> Result<Han
     };
     match desk.stage(epoch) {
         StageReply::Turn { .. } => Ok(Hand::Filling),
+        StageReply::NoMemory => Err(Fail::new("stage: no memory")),
         _ => Ok(Hand::Free),
     }
 }
@@ -45,6 +46,9 @@ pub(crate) fn copy<K: Desk>(
     };
     let file = read_file(alloc, file)?;
     let reply = desk.copy_part(image, Dir { number: dir }, &file);
+    if matches!(reply, CopyReply::NoMemory) {
+        return Err(Fail::new("copy_part: no memory"));
+    }
     if copied_by(&reply) != left {
         return Err(Fail::new("another part"));
     }
@@ -70,6 +74,7 @@ pub(crate) fn seal<K: Desk>(desk: &mut K, hand: Hand, sys: &Sys) -> Result<Hand,
     match desk.seal(sys) {
         SealReply::Sealed => Ok(Hand::Sealed),
         SealReply::Differs { .. } => Ok(Hand::Filling),
+        SealReply::NoMemory => Err(Fail::new("seal: no memory")),
         _ => Err(Fail::new("no answer")),
     }
 }
@@ -86,6 +91,7 @@ pub(crate) fn activate<K: Desk>(desk: &mut K, hand: Hand) -> Result<Hand, Fail>
         ActivateReply::Active { .. } => Ok(Hand::Done),
         ActivateReply::BaseMissing { .. } => Ok(Hand::Sealed),
         ActivateReply::NotASystem { .. } => Ok(Hand::Sealed),
+        ActivateReply::NoMemory => Err(Fail::new("activate: no memory")),
         _ => Err(Fail::new("no answer")),
     }
 }

@@ -2,6 +2,7 @@
 
 ghost use Rattle.lane_steps.specs.Hands.{HoldsAsMuch, Grows};
 
+use crate::short::{checked, closed, collected, committed, opened, rejected, retained, was_read};
 use crate::step::Step;
 use pkg_names::{Root, read_file, read_path};
 use std::alloc::Global;
@@ -17,33 +18,25 @@ pub(crate) fn other_call<K: Desk>(alloc: Global, desk: &mut K, step: &Step) -> R
         Step::Read(dir, file) => read(alloc, desk, *dir, file),
         Step::Check(dir, file) => check(alloc, desk, *dir, file),
         Step::Retain(roots) => retain(desk, roots),
-        _ => {
-            plain_call(desk, step);
-            Ok(())
-        }
+        _ => plain_call(desk, step),
     }
 }
 
 // A call of which nothing has to be read first.
-fn plain_call<K: Desk>(desk: &mut K, step: &Step)
+fn plain_call<K: Desk>(desk: &mut K, step: &Step) -> Result<(), Fail>
     ensures held { HoldsAsMuch (K.view desk.old) (K.view desk.new) }
     ensures grows { Grows (K.view desk.old) (K.view desk.new) }
 {
     match step {
-        Step::Close(dir) => {
-            desk.close(Dir { number: *dir });
+        Step::Close(dir) => closed(desk.close(Dir { number: *dir })),
+        Step::Collect => collected(desk.collect()),
+        Step::Commit => committed(desk.commit()),
+        Step::Reject(file, why) => rejected(desk.reject(*file, *why)),
+        Step::Pause(bell) => {
+            desk.pause(*bell);
+            Ok(())
         }
-        Step::Collect => {
-            desk.collect();
-        }
-        Step::Commit => {
-            desk.commit();
-        }
-        Step::Reject(file, why) => {
-            desk.reject(*file, *why);
-        }
-        Step::Pause(bell) => desk.pause(*bell),
-        _ => {}
+        _ => Ok(()),
     }
 }
 
@@ -52,8 +45,7 @@ fn open<K: Desk>(alloc: Global, desk: &mut K, path: &[u8]) -> Result<(), Fail>
     ensures grows { Grows (K.view desk.old) (K.view desk.new) }
 {
     let path = read_path(alloc, path)?;
-    desk.open_path(&path);
-    Ok(())
+    opened(desk.open_path(&path))
 }
 
 fn read<K: Desk>(alloc: Global, desk: &mut K, dir: u64, file: &[u8]) -> Result<(), Fail>
@@ -61,8 +53,7 @@ fn read<K: Desk>(alloc: Global, desk: &mut K, dir: u64, file: &[u8]) -> Result<(
     ensures grows { Grows (K.view desk.old) (K.view desk.new) }
 {
     let file = read_file(alloc, file)?;
-    desk.read(Dir { number: dir }, &file);
-    Ok(())
+    was_read(desk.read(Dir { number: dir }, &file))
 }
 
 fn check<K: Desk>(alloc: Global, desk: &mut K, dir: u64, file: &[u8]) -> Result<(), Fail>
@@ -70,8 +61,7 @@ fn check<K: Desk>(alloc: Global, desk: &mut K, dir: u64, file: &[u8]) -> Result<
     ensures grows { Grows (K.view desk.old) (K.view desk.new) }
 {
     let file = read_file(alloc, file)?;
-    desk.check(Dir { number: dir }, &file);
-    Ok(())
+    checked(desk.check(Dir { number: dir }, &file))
 }
 
 fn retain<K: Desk>(desk: &mut K, roots: &[Root]) -> Result<(), Fail>
@@ -81,6 +71,5 @@ fn retain<K: Desk>(desk: &mut K, roots: &[Root]) -> Result<(), Fail>
     if roots.len() > RETAIN_LIMIT {
         return Err(Fail::new("too many"));
     }
-    desk.retain(roots);
-    Ok(())
+    retained(desk.retain(roots))
 }

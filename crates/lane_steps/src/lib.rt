@@ -5,6 +5,7 @@ mod filling;
 mod hand;
 mod keeping;
 mod packages;
+mod short;
 mod step;
 mod taking;
 

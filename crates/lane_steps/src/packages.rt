@@ -27,6 +27,7 @@ pub(crate) fn begin<K: Desk>(
     let path = read_path(alloc, path)?;
     match desk.begin(&path, choice) {
         BeginReply::Made(ticket) => Ok(Hand::Asking(ticket)),
+        BeginReply::NoMemory => Err(Fail::new("begin: no memory")),
         _ => Ok(Hand::Free),
     }
 }
@@ -44,6 +45,7 @@ pub(crate) fn want<K: Desk>(desk: &mut K, hand: Hand) -> Result<Hand, Fail>
         WantReply::NotYet(ticket, _) => Ok(Hand::Asking(ticket)),
         WantReply::Failed(_) => Ok(Hand::Free),
         WantReply::Opened(_) => Ok(Hand::Free),
+        WantReply::NoMemory(_) => Err(Fail::new("want: no memory")),
         _ => Err(Fail::new("no answer")),
     }
 }
@@ -71,6 +73,7 @@ pub(crate) fn room<K: Desk>(desk: &mut K, hand: Hand, len: u64) -> Result<Hand, 
     match desk.room(claim, len) {
         RoomReply::Made(claim) => Ok(Hand::Roomy(ticket, claim)),
         RoomReply::Ended(_) => Ok(Hand::Asking(ticket)),
+        RoomReply::NoMemory(_) => Err(Fail::new("room: no memory")),
         _ => Err(Fail::new("no answer")),
     }
 }
@@ -105,6 +108,7 @@ fn land<K: Desk>(desk: &mut K, hand: Hand) -> Result<Hand, Fail>
     match desk.land(claim) {
         LandReply::Landed => Ok(Hand::Asking(ticket)),
         LandReply::Ended(_) => Ok(Hand::Asking(ticket)),
+        LandReply::NoMemory(_) => Err(Fail::new("land: no memory")),
         _ => Err(Fail::new("no answer")),
     }
 }

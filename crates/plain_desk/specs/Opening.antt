@@ -1,5 +1,5 @@
 -- How a store opens, from what lasted.
-use Rattle.std.specs.Prelude.{◌≡◌, List, [], ◌∷◌, None}
+use Rattle.std.specs.Prelude.{◌≡◌, List, [], ◌∷◌}
 use Rattle.abr_record.specs.declared.Slot.{Slot}
 use Rattle.image_layout.specs.declared.geometry.Geometry.{Geometry}
 use Rattle.store_model.specs.declared.events.Act.TheVariants as acts
@@ -9,26 +9,23 @@ use Rattle.store_model.specs.Acts.Boot.{IsDueBoot}
 use Rattle.plain_boot.specs.declared.starting.BootEnd.TheVariants as boots
 use Rattle.plain_boot.specs.Starting.{Starts}
 use Rattle.plain_ledger.specs.Ledgers.{origin_of, event_by}
-use Rattle.plain_desk.specs.Stores.{StoreOf, ImagesOf}
+use Rattle.plain_desk.specs.Stores.{StoreOf, ImagesOf, without_fillers}
 use Rattle.plain_desk.specs.declared.opening.Opening.{Opening}
 use Rattle.plain_desk.specs.declared.opening.Opening.TheVariants.{Booted, NoSystem, Missing, Faulty}
 
--- no image has a byte, and no file has filled one
-abbrev pub no_images : ImagesOf
-no_images = record { zbi = []; vbmeta = []; fillers = record { zbi = None; vbmeta = None } }
-
--- The store begins with what lasted, and with its boot, which was due. No lane has put anything together.
-pub record HasBooted (g : Geometry) (d : Standing) (s : StoreOf) : Type 0 where
+-- The store begins with what lasted, and with its boot, which was due. No lane has put anything together. The images
+-- are there, and no file is known of them.
+pub record HasBooted (given : ImagesOf) (g : Geometry) (d : Standing) (s : StoreOf) : Type 0 where
   pub slot : Slot
   pub seen : List LookedAt
   pub due : IsDueBoot (opened g d) 0 slot seen
   pub origin : s.origin ≡ origin_of g d
   pub history : s.history ≡ event_by 0 (acts.Boot slot seen) ∷ []
   pub drafts : s.drafts ≡ []
-  pub images : s.images ≡ no_images
+  pub images : s.images ≡ without_fillers given
 
-abbrev pub Opens : List LookedAt → Geometry → Standing → Opening → Type 0
-Opens contents g d (Booted store) = HasBooted g d store
-Opens contents g d (NoSystem slot) = Starts contents (opened g d) (boots.NoSystem slot)
-Opens contents g d (Missing slot root) = Starts contents (opened g d) (boots.Missing slot root)
-Opens contents g d (Faulty slot why) = Starts contents (opened g d) (boots.Faulty slot why)
+abbrev pub Opens : List LookedAt → ImagesOf → Geometry → Standing → Opening → Type 0
+Opens contents images g d (Booted store) = HasBooted images g d store
+Opens contents images g d (NoSystem slot) = Starts contents (opened g d) (boots.NoSystem slot)
+Opens contents images g d (Missing slot root) = Starts contents (opened g d) (boots.Missing slot root)
+Opens contents images g d (Faulty slot why) = Starts contents (opened g d) (boots.Faulty slot why)

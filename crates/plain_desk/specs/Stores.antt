@@ -35,7 +35,7 @@ use Rattle.store_model.specs.declared.events.Act.{Act}
 use Rattle.plain_ledger.specs.Ledgers.{LedgerOf, Agrees, Notes, event_by, next_number}
 pub use Rattle.plain_drafts.specs.Drafts.{DraftOf, Drafted, added, bytes_in, len_in, draft_of, draft_with}
 pub use Rattle.plain_drafts.specs.Drafts.{room_in, without_draft}
-pub use Rattle.plain_drafts.specs.Images.{ImagesOf, IsAppended, image_of}
+pub use Rattle.plain_drafts.specs.Images.{ImagesOf, IsAppended, image_of, without_fillers}
 pub use Rattle.plain_desk.specs.Memory.{AreOfMemory, InMemory, IsOfMemory, is_of_memory}
 pub use Rattle.plain_desk.specs.Memory.{checks_in_memory, reads_in_memory}
 

@@ -34,7 +34,8 @@ pub enum Opening {
     Faulty { slot: Slot, why: SystemFault },
 }
 
-/// What is left of a store at its end. The next one can open from what lasts, with the bytes of its blobs.
+/// What is left of a store at its end. The next one can open from what lasts, with the bytes of its blobs
+/// and the images.
 #[derive(Drop)]
 pub struct Parts {
     pub history: Vec<Event>,
@@ -44,15 +45,17 @@ pub struct Parts {
 }
 
 impl Store {
-    /// Boots the store of what lasted, with the bytes of the stored blobs. Its first event is the boot.
+    /// Boots the store of what lasted, with the bytes of the stored blobs and the images that were filled last. Its
+    /// first event is the boot. A boot looks at no byte of an image.
     pub fn open(
         alloc: Global,
         geometry: Geometry,
         standing: Standing,
         contents: Contents,
+        images: Images,
     ) -> Result<Opening, AllocError>
         requires { AreBytesOf contents standing.stock }
-        ensures { IfOk result (Opens contents geometry standing) }
+        ensures { IfOk result (Opens contents images geometry standing) }
     {
         let lasted = Snapshot::of(&standing);
         match start(alloc, geometry, standing, &contents)? {
@@ -63,7 +66,7 @@ impl Store {
                     ledger,
                     contents,
                     drafts: Drafts::new(alloc),
-                    images: Images::new(alloc),
+                    images: images.without_fillers(),
                 }))
             }
             BootEnd::NoSystem { slot } => Ok(Opening::NoSystem { slot }),

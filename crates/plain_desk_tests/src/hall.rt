@@ -6,7 +6,7 @@ ghost use Rattle.plain_desk_tests.specs.Halls.{OpensEmpty};
 ghost use Rattle.lane_steps.specs.Hands.{Fits};
 
 use crate::stores::{Slots, ample, open, open_from};
-use image_layout::Geometry;
+use image_layout::{Geometry, Sys};
 use lane_steps::{Hand, Step, take_step};
 use pkg_names::Bytes;
 use plain_desk::{Lane, Opening, Store};
@@ -108,6 +108,11 @@ impl Hall {
         Ok(text_of(self.alloc, &self.store.into_history())?)
     }
 
+    /// The images that were filled last are this system's.
+    pub fn has_images_of(self, sys: &Sys) -> bool {
+        self.store.into_parts().images.difference(sys).is_none()
+    }
+
     /// The history in lines, and a store that boots from what lasts.
     pub fn reboot(self) -> Result<(Bytes, Hall), Fail> {
         let Hall {
@@ -118,7 +123,13 @@ impl Hall {
         } = self;
         let parts = store.into_parts();
         let text = text_of(alloc, &parts.history)?;
-        let opening = open_from(alloc, geometry, parts.standing, parts.contents)?;
+        let opening = open_from(
+            alloc,
+            geometry,
+            parts.standing,
+            parts.contents,
+            parts.images,
+        )?;
         Ok((text, seated(alloc, geometry, opening)?))
     }
 }

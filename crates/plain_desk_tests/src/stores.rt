@@ -9,6 +9,7 @@ use image_layout::{Geometry, ImageSum, Sys};
 use pkg_merkle::BYTES_LIMIT;
 use pkg_names::Root;
 use plain_desk::{Opening, Store, StoredBlobs};
+use plain_drafts::Images;
 use plain_state::Standing;
 use plain_stock::Contents;
 use repo_source::RepoFile;
@@ -75,7 +76,7 @@ pub fn open(
     }
     let (stock, contents) = blobs.into_parts();
     let standing = Standing::make(stock, slots.abr, slots.a, slots.b);
-    open_from(alloc, geometry, standing, contents)
+    open_from(alloc, geometry, standing, contents, Images::new(alloc))
 }
 
 /// How a store opens from what lasted.
@@ -84,11 +85,12 @@ pub(crate) fn open_from(
     geometry: Geometry,
     standing: Standing,
     contents: Contents,
+    images: Images,
 ) -> Result<Opening, Fail>
     requires { AreBytesOf contents standing.stock }
     ensures { IfOk result OpensEmpty }
 {
-    Ok(Store::open(alloc, geometry, standing, contents)?)
+    Ok(Store::open(alloc, geometry, standing, contents, images)?)
 }
 
 fn put(alloc: Global, blobs: &mut StoredBlobs, file: &RepoFile) -> Result<(), Fail> {

@@ -215,6 +215,19 @@ fn seven_boots_and_the_eighth(rt: HostRuntime) -> Result<(), Fail> {
     Ok(())
 }
 
+// What an update has filled is handed from boot to boot, until the next stage clears it.
+#[test]
+fn images_last(rt: HostRuntime) -> Result<(), Fail> {
+    let alloc = rt.alloc();
+    let world = make_world(alloc)?;
+    let ended = updated(alloc, &world)?.reboot()?;
+    assert!(rt; ended.1.has_images_of(&next_system(&world)));
+    let mut hall = at_the_seventh_boot(alloc, &world)?;
+    hall.run(&[(1, Step::Commit), (1, Step::Stage(2))])?;
+    assert!(rt; hall.has_images_of(&system(world.new, 2)));
+    Ok(())
+}
+
 // The store that boots for the seventh time after an update.
 fn at_the_seventh_boot(alloc: Global, world: &World) -> Result<Hall, Fail> {
     let mut hall = updated(alloc, world)?;

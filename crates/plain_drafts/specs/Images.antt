@@ -1,5 +1,5 @@
 -- The images of the slot that an update fills.
-use Rattle.std.specs.Prelude.{◌≡◌, ◌≢◌, ℕ, List, ◌++◌, length}
+use Rattle.std.specs.Prelude.{◌≡◌, ◌≢◌, ℕ, List, [], ◌++◌, length, None}
 use Rattle.image_layout.specs.declared.ImageKind.{ImageKind}
 use Rattle.image_layout.specs.declared.ImageKind.TheVariants as images
 use Rattle.image_layout.specs.declared.Sys.{Sys}
@@ -18,6 +18,14 @@ pub record ImagesOf : Type 0 where
 abbrev pub image_of : ImagesOf → ImageKind → List ℕ
 image_of s images.Zbi = s.zbi
 image_of s images.Vbmeta = s.vbmeta
+
+-- no image has a byte, and no file has filled one
+abbrev pub no_images : ImagesOf
+no_images = record { zbi = []; vbmeta = []; fillers = record { zbi = None; vbmeta = None } }
+
+-- the same bytes, of which no file is known
+abbrev pub without_fillers : ImagesOf → ImagesOf
+without_fillers s = record { zbi = s.zbi; vbmeta = s.vbmeta; fillers = record { zbi = None; vbmeta = None } }
 
 -- A part of the file with this root came behind the bytes of an image.
 pub record IsAppended (image : ImageKind) (root : Root) (part : List ℕ) (old new : ImagesOf) : Type 0 where

@@ -4,7 +4,7 @@ ghost use Rattle.std.specs.Prelude.{◌≡◌, [], None, length, IfOk, MatchOpti
 ghost use Rattle.image_layout.specs.Sums.{image_sum};
 ghost use Rattle.store_model.specs.Desk.{filler_after};
 ghost use Rattle.plain_drafts.specs.Images.{HaveSums, IsDifference};
-ghost use Rattle.plain_drafts.specs.Images.{IsAppended, image_of};
+ghost use Rattle.plain_drafts.specs.Images.{IsAppended, image_of, no_images, without_fillers};
 
 use image_layout::{ImageKind, ImageSum, Sys};
 use pkg_names::Root;
@@ -37,7 +37,7 @@ impl Model for Images {
 impl Images {
     /// Two images without bytes.
     pub fn new(alloc: Global) -> Images
-        ensures { result ≡ record { zbi = []; vbmeta = []; fillers = record { zbi = None; vbmeta = None } } }
+        ensures { result ≡ no_images }
     {
         Images {
             zbi: Vec::new(alloc),
@@ -47,9 +47,32 @@ impl Images {
         }
     }
 
+    /// Two images with these bytes, of which no file is known.
+    pub fn of(zbi: Vec<u8>, vbmeta: Vec<u8>) -> Images
+        ensures { result ≡ record {
+          zbi = zbi.items;
+          vbmeta = vbmeta.items;
+          fillers = record { zbi = None; vbmeta = None };
+        } }
+    {
+        Images {
+            zbi,
+            vbmeta,
+            zbi_filler: None,
+            vbmeta_filler: None,
+        }
+    }
+
+    /// The same bytes, of which no file is known.
+    pub fn without_fillers(self) -> Images
+        ensures { result ≡ without_fillers self }
+    {
+        Images::of(self.zbi, self.vbmeta)
+    }
+
     /// Both images have no bytes from now on.
     pub fn clear(&mut self)
-        ensures { self.new ≡ record { zbi = []; vbmeta = []; fillers = record { zbi = None; vbmeta = None } } }
+        ensures { self.new ≡ no_images }
     {
         self.zbi.clear();
         self.vbmeta.clear();

@@ -17,11 +17,11 @@ unreachable-requires-in-Missing c =
     let d = c.make-standing.result in
     let is = start_is c.in_ok-stock.stock c.factory.result c.system.result d c.make-standing.ensures c.in_ok-stock.ensures.stock c.factory.ensures c.system.ensures in
     nothing_missing c.in_ok-stock.contents c.geometry.result d c.in-Missing.slot c.in-Missing.root c.in_ok-stock.ensures.bytes is
-    (subst (λ (o : Opening). Opens c.in_ok-stock.contents c.geometry.result d o) c.in-Missing.is c.in_ok-store.ensures)
+    (subst (λ (o : Opening). Opens c.in_ok-stock.contents c.new.result c.geometry.result d o) c.in-Missing.is c.in_ok-store.ensures)
 
 pub unreachable-requires-in-Faulty : goal.unreachable-requires-in-Faulty
 unreachable-requires-in-Faulty c =
     let d = c.make-standing.result in
     let is = start_is c.in_ok-stock.stock c.factory.result c.system.result d c.make-standing.ensures c.in_ok-stock.ensures.stock c.factory.ensures c.system.ensures in
     nothing_faulty c.in_ok-stock.contents c.geometry.result d c.in-Faulty.slot c.in-Faulty.why c.in_ok-stock.ensures.bytes is
-    (subst (λ (o : Opening). Opens c.in_ok-stock.contents c.geometry.result d o) c.in-Faulty.is c.in_ok-store.ensures)
+    (subst (λ (o : Opening). Opens c.in_ok-stock.contents c.new.result c.geometry.result d o) c.in-Faulty.is c.in_ok-store.ensures)

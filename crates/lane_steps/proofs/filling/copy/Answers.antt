@@ -12,3 +12,7 @@ returns-clause-hand g c =
 pub returns-clause-grows : goal.returns-clause-grows
 returns-clause-grows g c =
     grows_copied c.args.image c.args.dir c.in_ok-file.file c.copy_part-reply.result (g.K.Desk.view c.args.desk.now) (g.K.Desk.view c.copy_part-reply.new.self) c.copy_part-reply.ensures.event
+
+pub returns-then-ne-clause-grows : goal.returns-then-ne-clause-grows
+returns-then-ne-clause-grows g c =
+    grows_copied c.args.image c.args.dir c.in_ok-file.file c.copy_part-reply.result (g.K.Desk.view c.args.desk.now) (g.K.Desk.view c.copy_part-reply.new.self) c.copy_part-reply.ensures.event
