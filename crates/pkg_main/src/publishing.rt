@@ -11,6 +11,7 @@ ghost use Rattle.repo_source.specs.Repo.{Fails};
 ghost use Rattle.repo_publish.specs.Published.{package_root};
 ghost use Rattle.repo_publish.specs.Steps.{is_post_fault, is_tree_fault};
 ghost use Rattle.repo_publish.specs.Ends.{EndsAs, Stays, IsPosted, IfListed, IfPublished, IfUnwritten};
+ghost use Rattle.repo_publish.specs.Ends.{IfRefused, IsRefused, IfUnfit, IsUnfit, IfCutShort, IsCutShort};
 ghost use Rattle.folder_publish.specs.declared.post.PostTrouble.{PostTrouble as TroubleOf};
 ghost use Rattle.pkg_report.specs.PublishLines.{line_of_publication, number_of_publication};
 
@@ -92,7 +93,14 @@ pub(crate) fn publish_tree<T: PlacedTree, P: TroubledPost, W: Sink, E: Report>(
         ++ (line_text (record { path = path.now; root = root }) ++ line_feed ∷ [])) (W.written out.old)) }
     ensures listing { Stays (P.listing post.old) (P.listing post.new) (P.list_faults post.old)
         (P.list_faults post.new) result.end }
+    ensures refused { IfRefused result.end (IsRefused (T.left tree.old) (T.left tree.new)
+        (P.files post.old) (P.files post.new) result.end) }
+    ensures unfit { IfUnfit result.end (IsUnfit (T.left tree.old) (T.left tree.new) path.now
+        (P.files post.old) (P.files post.new) result.end) }
+    ensures none_left { IfListed result.end (IfSome (T.left tree.new) (λ list. list ≡ [])) }
     ensures unwritten { IfUnwritten result.end (out.new ≡ out.old) }
+    ensures cut_short { IfCutShort result.end (IsCutShort (T.left tree.old) path.now (P.listing post.old)
+        (W.written out.old) (W.written out.new)) }
     ensures post_faults { Fails (is_post_fault result.end) (P.faults post.old) (P.faults post.new) }
     ensures tree_faults { Fails (is_tree_fault result.end) (T.faults tree.old) (T.faults tree.new) }
     ensures sink_cause { result.end ≡ PublishEnd.SinkFault → Rose (W.faults out.old) (W.faults out.new) }

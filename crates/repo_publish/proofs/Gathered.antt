@@ -18,7 +18,7 @@ use Rattle.repo_publish.proofs.Counts.{same_count}
 use Rattle.repo_publish.proofs.Fine.{refusal_then, is_refusal}
 use Rattle.repo_publish.proofs.Posted.{posts_then}
 
-one_taken : (done : List FarEntry) (file : FarEntry) (left mid next : Option (List FarEntry)) → left ≡ option_map (λ rest. done ++ rest) mid → mid ≡ option_map (λ rest. file ∷ rest) next → left ≡ option_map (λ rest. (done ++ file ∷ []) ++ rest) next
+pub one_taken : (done : List FarEntry) (file : FarEntry) (left mid next : Option (List FarEntry)) → left ≡ option_map (λ rest. done ++ rest) mid → mid ≡ option_map (λ rest. file ∷ rest) next → left ≡ option_map (λ rest. (done ++ file ∷ []) ++ rest) next
 one_taken done file left mid None is took = is ∙ ap (option_map (λ (rest : List FarEntry). done ++ rest)) took
 one_taken done file left mid (Some rest) is took =
     is ∙ ap (option_map (λ (rest : List FarEntry). done ++ rest)) took ∙ ap Some (sym (append_assoc done (file ∷ []) rest))

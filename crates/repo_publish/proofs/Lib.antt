@@ -5,6 +5,7 @@ mod Fine
 mod Gathered
 mod Inner
 mod Judged
+mod Left
 mod Listed
 mod Lists
 mod Named

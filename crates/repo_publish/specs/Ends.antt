@@ -1,6 +1,11 @@
 -- What the answer of a publication says of tree, post and sink.
-use Rattle.std.specs.Prelude.{◌≡◌, ℕ, ⊤, ◌⊎◌, List, Option, Result, Ok, Err, IfSome}
+use Rattle.std.specs.Prelude.{◌≡◌, ℕ, ⊤, ◌⊎◌, List, [], ◌∷◌, ◌++◌, take, Option, None, Some, Result, Ok, Err, IfSome}
+use Rattle.std.specs.Option.{option_map}
 use Rattle.far_archive.specs.declared.write.FarEntry.{FarEntry}
+use Rattle.package_book.specs.Book.{book}
+use Rattle.package_book.specs.declared.fault.PackageFault.{PackageFault}
+use Rattle.pkg_names.specs.Text.{line_feed}
+use Rattle.system_lists.specs.Static.{line_text}
 use Rattle.pkg_names.specs.Streams.{Rose}
 use Rattle.pkg_names.specs.declared.root.Root.{Root}
 use Rattle.pkg_names.specs.declared.pinned.Pinned.{Pinned}
@@ -9,8 +14,9 @@ use Rattle.repo_source.specs.declared.file.RepoFile.{RepoFile}
 use Rattle.repo_publish.specs.declared.post.PostReply.{PostReply}
 use Rattle.repo_publish.specs.declared.post.PostReply.TheVariants as posts
 use Rattle.repo_publish.specs.declared.publishing.PublishEnd.{PublishEnd}
-use Rattle.repo_publish.specs.declared.publishing.PublishEnd.TheVariants.{Published, PostFault, SinkFault, NoMemory}
-use Rattle.repo_publish.specs.Published.{package_root, end_of, IsPublished}
+use Rattle.repo_publish.specs.declared.publishing.PublishEnd.TheVariants.{Published, Order, Reserved, TooLarge, TooMany, NotAPackage, FullListing, PostFault, SinkFault, NoMemory}
+use Rattle.repo_publish.specs.Refusals.{file_refusal, refusal}
+use Rattle.repo_publish.specs.Published.{outer_blobs, meta_bytes, package_root, end_of, Posts, IsPublished}
 use Rattle.repo_publish.specs.Steps.{IsCut}
 
 -- how a post's answer ends a publication, if it does
@@ -68,3 +74,64 @@ pub record IsAllPosted (left : Option (List FarEntry)) (path : NameAndVariant) (
   pub posted : IsPosted left path old new files files_now
   pub exact : EndsAs left old path (Published root)
   pub root_is : IfSome left (λ list. root ≡ package_root path list)
+
+-- ---- what is left, and what was posted
+
+-- a file was refused
+abbrev pub IfRefused : PublishEnd → Type 0 → Type 0
+IfRefused (Order file) P = P
+IfRefused (Reserved file) P = P
+IfRefused (TooLarge file len) P = P
+IfRefused TooMany P = P
+IfRefused end P = ⊤
+
+-- A file was refused for this: it was the last that was taken, those before it can be published, and of
+-- them the other files were posted and nothing else.
+pub record IsRefused (left left_now : Option (List FarEntry)) (before after : Option (List RepoFile))
+    (end : PublishEnd) : Type 0 where
+  pub done : List FarEntry
+  pub file : FarEntry
+  pub all : left ≡ option_map (λ rest. (done ++ file ∷ []) ++ rest) left_now
+  pub fine : refusal done ≡ None
+  pub refused : file_refusal done file ≡ Some end
+  pub posts : Posts (outer_blobs done) before after
+
+-- the files make no package, or the listing has no room for it
+abbrev pub IfUnfit : PublishEnd → Type 0 → Type 0
+IfUnfit (NotAPackage why) P = P
+IfUnfit FullListing P = P
+IfUnfit end P = ⊤
+
+-- why the files make no package
+abbrev pub IfNoPackage : PublishEnd → (PackageFault → Type 0) → Type 0
+IfNoPackage (NotAPackage why) P = P why
+IfNoPackage end P = ⊤
+
+-- All files were taken, and none was refused. The other files were posted, and nothing else. Where the files
+-- make no package, this is what is wrong with their meta blob.
+pub record IsUnfit (left left_now : Option (List FarEntry)) (path : NameAndVariant)
+    (before after : Option (List RepoFile)) (end : PublishEnd) : Type 0 where
+  pub done : List FarEntry
+  pub all : IfSome left (λ list. list ≡ done)
+  pub none_left : IfSome left_now (λ list. list ≡ [])
+  pub fine : refusal done ≡ None
+  pub why : IfNoPackage end (λ why. book (meta_bytes path done) ≡ Err why)
+  pub posts : Posts (outer_blobs done) before after
+
+-- ---- what was written
+
+-- the line could not be written whole
+abbrev pub IfCutShort : PublishEnd → Type 0 → Type 0
+IfCutShort SinkFault P = P
+IfCutShort end P = ⊤
+
+-- A package was posted, whose line was written to here. Where the files are told it is theirs, and without
+-- the failure it would have been published.
+pub record IsCutShort (left : Option (List FarEntry)) (path : NameAndVariant) (told : Option (List Pinned))
+    (before after : Option (List ℕ)) : Type 0 where
+  pub root : Root
+  pub count : ℕ
+  pub root_is : IfSome left (λ files. root ≡ package_root path files)
+  pub exact : EndsAs left told path (Published root)
+  pub wrote : after ≡ option_map (λ written. written
+      ++ take count (line_text (record { path = path; root = root }) ++ line_feed ∷ [])) before

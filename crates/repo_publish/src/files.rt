@@ -1,11 +1,12 @@
 //! The files of a tree, judged and posted as they come.
 
-ghost use Rattle.std.specs.Prelude.{◌≡◌, ◌≤◌, ◌<◌, ◌∷◌, ◌++◌, [], List, Err, false, IfOk, IfErr, OnOk, is_some, length};
+ghost use Rattle.std.specs.Prelude.{◌≡◌, ◌≤◌, ◌<◌, ◌∷◌, ◌++◌, [], List, Err, false, IfSome, IfOk, IfErr, OnOk, is_some, length};
 ghost use Rattle.pkg_merkle.specs.Merkle.{merkle_root};
 ghost use Rattle.far_archive.specs.declared.write.FarEntry.{FarEntry as EntryOf};
 ghost use Rattle.meta_contents.specs.Contents.{is_in_meta as stands_in_meta, is_among, paths};
 ghost use Rattle.repo_source.specs.Repo.{Fails};
 ghost use Rattle.repo_publish.specs.Published.{outer_blobs, Posts};
+ghost use Rattle.repo_publish.specs.Ends.{IfRefused, IsRefused, IfUnfit};
 ghost use Rattle.repo_publish.specs.Steps.{IsTaken, AreTaken, IsPostCut, EndsAt, IsGathered, EndsFiles, failed_post, failed_tree};
 
 use crate::draft::Draft;
@@ -26,6 +27,10 @@ pub(crate) fn gather<T: Tree, P: Post>(
     ensures gathered { IfOk result (λ draft. IsGathered (T.left tree.old) (P.files post.old) (P.files post.new)
         draft.inner.items draft.contents draft.last) }
     ensures end { IfErr result (EndsFiles (T.left tree.old)) }
+    ensures refused { IfErr result (λ end. IfRefused end (IsRefused (T.left tree.old) (T.left tree.new)
+        (P.files post.old) (P.files post.new) end)) }
+    ensures unfit { IfErr result (λ end. IfUnfit end ⊥) }
+    ensures none_left { OnOk result (IfSome (T.left tree.new) (λ list. list ≡ [])) }
     ensures post_faults { Fails (failed_post result) (P.faults post.old) (P.faults post.new) }
     ensures tree_faults { Fails (failed_tree result) (T.faults tree.old) (T.faults tree.new) }
     ensures no_sink { result ≡ Err PublishEnd.SinkFault → ⊥ }
@@ -65,6 +70,7 @@ fn take<P: Post>(
     ensures end { IfErr result (λ end. (done : List EntryOf)
         → IsTaken done draft.old.inner.items draft.old.contents draft.old.last → EndsAt done file end) }
     ensures posts { OnOk result (Posts (outer_blobs (file ∷ [])) (P.files post.old) (P.files post.new)) }
+    ensures untouched { IfErr result (λ end. IfRefused end (P.files post.new ≡ P.files post.old)) }
     ensures faults { Fails (failed_post result) (P.faults post.old) (P.faults post.new) }
     ensures listing { P.listing post.new ≡ P.listing post.old }
     ensures files_told { is_some (P.files post.new) ≡ is_some (P.files post.old) }

@@ -1,6 +1,6 @@
 //! The line of a package.
 
-ghost use Rattle.std.specs.Prelude.{◌≡◌, ◌++◌, ◌∷◌, [], ◌≤◌, IfOk, OnOk, OnErr};
+ghost use Rattle.std.specs.Prelude.{◌≡◌, ◌++◌, ◌∷◌, [], ◌≤◌, ℕ, take, IfOk, OnOk, OnErr};
 ghost use Rattle.std.specs.Option.{option_map};
 ghost use Rattle.pkg_names.specs.Streams.{Rose};
 ghost use Rattle.pkg_names.specs.Text.{line_feed};
@@ -43,6 +43,8 @@ pub(crate) fn give_all<W: Sink>(out: &mut W, bytes: &[u8]) -> Result<(), SinkFai
     ensures ok { OnOk result (W.written out.new
         ≡ option_map (λ written. written ++ bytes.now) (W.written out.old)) }
     ensures err { OnErr result (Rose (W.faults out.old) (W.faults out.new)) }
+    ensures front { OnErr result ((count : ℕ) × (W.written out.new
+        ≡ option_map (λ written. written ++ take count bytes.now) (W.written out.old))) }
     ensures faults { W.faults out.old ≤ W.faults out.new }
 {
     let mut done = 0;

@@ -3,6 +3,7 @@
 ghost use Rattle.std.specs.Prelude.{◌≡◌, ◌||◌, nat_lt, length, IfOk, IfErr, OnOk, is_some};
 ghost use Rattle.repo_source.specs.Repo.{Fails};
 ghost use Rattle.repo_publish.specs.Post.{NamesOnce};
+ghost use Rattle.repo_publish.specs.Ends.{IfUnfit};
 ghost use Rattle.repo_publish.specs.Steps.{IsNext, EndsListing, IsTextWith, EndsText, failed_post};
 ghost use Rattle.std.specs.List.{All, position};
 ghost use Rattle.system_lists.specs.Lists.{IsPinned};
@@ -29,6 +30,7 @@ pub(crate) fn next_listing<P: Post>(
     ensures faults { Fails (failed_post result) (P.faults post.old) (P.faults post.new) }
     ensures listing { P.listing post.new ≡ P.listing post.old }
     ensures files { OnOk result (P.files post.new ≡ P.files post.old) }
+    ensures full { IfErr result (λ end. IfUnfit end (P.files post.new ≡ P.files post.old)) }
     ensures files_told { is_some (P.files post.new) ≡ is_some (P.files post.old) }
     ensures list_faults { P.list_faults post.new ≡ P.list_faults post.old }
 {

@@ -11,6 +11,7 @@ ghost use Rattle.repo_publish.specs.Post.{Puts, IsListing, post_failed};
 ghost use Rattle.repo_publish.specs.Steps.{IsMade, IsPostCut, failed_post, failed_tree, is_post_fault, is_tree_fault};
 ghost use Rattle.repo_publish.specs.Ends.{ended, EndsAs, EndsEarly, Stays, IsAllPosted, IsPosted, IsEarly};
 ghost use Rattle.repo_publish.specs.Ends.{IfListed, IfPublished, IfUnwritten};
+ghost use Rattle.repo_publish.specs.Ends.{IfRefused, IsRefused, IfUnfit, IsUnfit, IfCutShort, IsCutShort};
 
 use crate::files::gather;
 use crate::line::{give_all, line_of};
@@ -71,7 +72,14 @@ pub fn publish<T: Tree, P: Post, W: Sink>(
         ++ (line_text (record { path = path.now; root = root }) ++ line_feed ∷ [])) (W.written out.old)) }
     ensures listing { Stays (P.listing post.old) (P.listing post.new) (P.list_faults post.old) (P.list_faults post.new)
         result }
+    ensures refused { IfRefused result (IsRefused (T.left tree.old) (T.left tree.new)
+        (P.files post.old) (P.files post.new) result) }
+    ensures unfit { IfUnfit result (IsUnfit (T.left tree.old) (T.left tree.new) path.now
+        (P.files post.old) (P.files post.new) result) }
+    ensures none_left { IfListed result (IfSome (T.left tree.new) (λ list. list ≡ [])) }
     ensures unwritten { IfUnwritten result (out.new ≡ out.old) }
+    ensures cut_short { IfCutShort result (IsCutShort (T.left tree.old) path.now (P.listing post.old)
+        (W.written out.old) (W.written out.new)) }
     ensures post_faults { Fails (is_post_fault result) (P.faults post.old) (P.faults post.new) }
     ensures tree_faults { Fails (is_tree_fault result) (T.faults tree.old) (T.faults tree.new) }
     ensures sink_cause { result ≡ PublishEnd.SinkFault → Rose (W.faults out.old) (W.faults out.new) }
@@ -110,6 +118,11 @@ fn post_all<T: Tree, P: Post>(
         ≡ line_text (record { path = path.now; root = posted.root }) ++ line_feed ∷ []) }
     ensures end { IfErr result (EndsAs (T.left tree.old) (P.listing post.old) path.now) }
     ensures early { IfErr result IsEarly }
+    ensures refused { IfErr result (λ end. IfRefused end (IsRefused (T.left tree.old) (T.left tree.new)
+        (P.files post.old) (P.files post.new) end)) }
+    ensures unfit { IfErr result (λ end. IfUnfit end (IsUnfit (T.left tree.old) (T.left tree.new) path.now
+        (P.files post.old) (P.files post.new) end)) }
+    ensures none_left { OnOk result (IfSome (T.left tree.new) (λ list. list ≡ [])) }
     ensures listing { IfErr result (Stays (P.listing post.old) (P.listing post.new)
         (P.list_faults post.old) (P.list_faults post.new)) }
     ensures post_faults { Fails (failed_post result) (P.faults post.old) (P.faults post.new) }
@@ -149,6 +162,11 @@ fn meta_of<T: Tree, P: Post>(
     ensures small { IfOk result (λ meta. length meta.items ≤ META_LIMIT) }
     ensures end { IfErr result (EndsEarly (T.left tree.old) path.now) }
     ensures early { IfErr result IsEarly }
+    ensures refused { IfErr result (λ end. IfRefused end (IsRefused (T.left tree.old) (T.left tree.new)
+        (P.files post.old) (P.files post.new) end)) }
+    ensures unfit { IfErr result (λ end. IfUnfit end (IsUnfit (T.left tree.old) (T.left tree.new) path.now
+        (P.files post.old) (P.files post.new) end)) }
+    ensures none_left { OnOk result (IfSome (T.left tree.new) (λ list. list ≡ [])) }
     ensures post_faults { Fails (failed_post result) (P.faults post.old) (P.faults post.new) }
     ensures tree_faults { Fails (failed_tree result) (T.faults tree.old) (T.faults tree.new) }
     ensures listing { P.listing post.new ≡ P.listing post.old }

@@ -2,6 +2,7 @@ use Rattle.std.proofs.Common.{◌≡◌, ◌∙◌, false, arith}
 use Rattle.repo_publish.specs.declared.publishing.PublishEnd.TheVariants.{SinkFault}
 use Rattle.repo_publish.specs.Steps.{is_post_fault, is_tree_fault}
 use Rattle.repo_publish.proofs.Faults.{fails_then, none_then, file_is_no_fault}
+use Rattle.repo_publish.proofs.Left.{fits_here, refused_here}
 use Rattle.repo_publish.proofs.Gathered.{more_gathered, ends_here, never_so_many, not_sink}
 use Rattle.repo_publish.proofs.files.gather.Goals as goal
 
@@ -10,6 +11,17 @@ returns-in-Err-clause-end g c =
     let draft = c.loop-count.draft in
     ends_here c.loop-count._count (g.T.Tree.left c.args.tree.now) (g.T.Tree.left c.loop-count.tree) (g.T.Tree.left c.next.new.self) (g.P.Post.files c.args.post.now) (g.P.Post.files c.loop-count.post)
     draft.inner.items draft.contents draft.last c.loop-count.invariant.way c.in-File.file c.in-Err.end c.in-File.ensures.took c.in-Err.ensures.end
+
+pub returns-in-Err-clause-refused : goal.returns-in-Err-clause-refused
+returns-in-Err-clause-refused g c =
+    let draft = c.loop-count.draft in
+    refused_here c.loop-count._count (g.T.Tree.left c.args.tree.now) (g.T.Tree.left c.loop-count.tree) (g.T.Tree.left c.next.new.self) (g.P.Post.files c.args.post.now) (g.P.Post.files c.loop-count.post) (g.P.Post.files c.take.new.post)
+    draft.inner.items draft.contents draft.last c.loop-count.invariant.way c.in-File.file c.in-Err.end c.in-File.ensures.took c.in-Err.ensures.end c.in-Err.ensures.untouched
+
+pub returns-in-Err-clause-unfit : goal.returns-in-Err-clause-unfit
+returns-in-Err-clause-unfit g c =
+    let way = c.loop-count.invariant.way in
+    fits_here way.done c.in-File.file c.in-Err.end (c.in-Err.ensures.end way.done way.taken)
 
 pub returns-in-Err-clause-tree_faults : goal.returns-in-Err-clause-tree_faults
 returns-in-Err-clause-tree_faults g c =
