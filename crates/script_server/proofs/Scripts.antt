@@ -10,6 +10,7 @@ use Rattle.store_model.specs.History.{Origin, IsLegal, Numbered, of_lane}
 use Rattle.plain_ledger.specs.Ledgers.{origin_of, event_by}
 use Rattle.plain_desk.specs.Memory.{AreOfMemory}
 use Rattle.plain_desk.specs.Stores.{StoreOf}
+use Rattle.plain_drafts.specs.Images.{no_images}
 use Rattle.plain_desk.specs.Opening.{HasBooted}
 use Rattle.first_store.specs.Start.{IsStart, start_geometry}
 use Rattle.script_lang.specs.declared.request.Request.{Request}
@@ -23,7 +24,7 @@ use Rattle.script_server.proofs.Resting.{at_rest}
 
 -- ---- the lanes of a script, from the start on
 
-module _ (d : Standing) (is_start : IsStart d) (s s1 : StoreOf) (booted : HasBooted start_geometry d s) (requests : List Request) (lanes : ℕ) (starved : Bool)
+module _ (d : Standing) (is_start : IsStart d) (s s1 : StoreOf) (booted : HasBooted no_images start_geometry d s) (requests : List Request) (lanes : ℕ) (starved : Bool)
     (repos repos_now : List Told) (serves : ServesLanes requests 0 lanes starved repos repos_now s s1) where
   boot : of_lane 0 s1.history ≡ record { number = 1; event = event_by 0 (acts.Boot booted.slot booted.seen) } ∷ []
   boot = serves.first 0 (omega arith) ∙ ap (of_lane 0) booted.history
