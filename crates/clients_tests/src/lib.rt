@@ -2,7 +2,13 @@
 #![tactic(auto)]
 
 #[cfg(test)]
+mod choices;
+#[cfg(test)]
+mod lines;
+#[cfg(test)]
 mod memory;
+#[cfg(test)]
+mod recovery;
 #[cfg(test)]
 mod resolves;
 #[cfg(test)]

@@ -3,6 +3,7 @@
 ghost use Rattle.std.specs.Prelude.{◌≡◌, [], None, IfOk};
 ghost use Rattle.store_model.specs.Holding.{held};
 ghost use Rattle.store_model.specs.History.{of_lane};
+ghost use Rattle.script_server.specs.Lanes.{AreFresh};
 
 use crate::stores::base_store;
 use package_shop::Shop;
@@ -34,7 +35,22 @@ pub(crate) fn make_scene(
     ensures other { IfOk result (λ scene. of_lane 2 scene.store.history ≡ []) }
     ensures no_file { IfOk result (λ scene. scene.url.file ≡ None) }
 {
-    let store = base_store(alloc)?;
+    scene_at(alloc, base_store(alloc)?, shop, failing, url)
+}
+
+// The same at another store.
+pub(crate) fn scene_at(
+    alloc: Global,
+    store: Store,
+    shop: Shop,
+    failing: &[u64],
+    url: &[u8],
+) -> Result<Scene, Fail>
+    requires fresh { AreFresh 0 store.history }
+    ensures fresh { IfOk result (λ scene. of_lane 1 scene.store.history ≡ []) }
+    ensures other { IfOk result (λ scene. of_lane 2 scene.store.history ≡ []) }
+    ensures no_file { IfOk result (λ scene. scene.url.file ≡ None) }
+{
     let repo = shop.into_repo(failing.to_vec(alloc)?);
     let url = read_url(alloc, url)?;
     if url.file.is_some() {

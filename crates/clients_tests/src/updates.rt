@@ -41,13 +41,47 @@ const OTHER_SUM: &[u8] =
     b"{\"version\":\"1\",\"contents\":{\"partitions\":[{\"slot\":\"fuchsia\",\"type\":\"zbi\",\
 \"size\":5,\"hash\":\"$1\",\"url\":\"fuchsia-pkg://a/images?hash=$1#zbi\"}]}}";
 
-// The list of the system, the manifests of the update package, and how the history of an update ends.
+// A zbi of 65,537 bytes, each of them `z`, and a vbmeta. Their sums are those that sha256sum gives.
+const BOTH: &[u8] =
+    b"{\"version\":\"1\",\"contents\":{\"partitions\":[{\"slot\":\"fuchsia\",\"type\":\"zbi\",\
+\"size\":65537,\"hash\":\"810c37bb91b70d110564f7739f88b79f6e2ad5b9553d5a7a8119bf3a376e87f9\",\
+\"url\":\"fuchsia-pkg://a/images?hash=$1#zbi\"},{\"slot\":\"fuchsia\",\"type\":\"vbmeta\",\
+\"size\":2,\"hash\":\"88d2f47e5eec541d907a3951ea1586732930d4a84510624b48c5e259c51d139b\",\
+\"url\":\"fuchsia-pkg://a/images?hash=$1#vbmeta\"}]}}";
+
+// How the history of an update to them ends. The package of both is resolved for each. The roots of the two files were
+// computed by another program.
+const STAGED_BOTH: &[u8] = b"24 1 begin images/0 ticket $1
+25 1 want 24 fetch $1
+26 1 room $1 made 12288
+27 1 land $1 landed 12288
+28 1 want 24 fetch 2b73b2dff420e09c179bde785b71f9c4d19398ad003066ef62053bbc7e006d63
+29 1 room 2b73b2dff420e09c179bde785b71f9c4d19398ad003066ef62053bbc7e006d63 made 2
+30 1 land 2b73b2dff420e09c179bde785b71f9c4d19398ad003066ef62053bbc7e006d63 landed 2
+31 1 want 24 fetch d901c633723ae494940d2f6af064df4180e021fac944acb75e8def505a10b254
+32 1 room d901c633723ae494940d2f6af064df4180e021fac944acb75e8def505a10b254 made 65537
+33 1 land d901c633723ae494940d2f6af064df4180e021fac944acb75e8def505a10b254 landed 65537
+34 1 want 24 opened
+35 1 close 34 closed
+36 1 begin images/0 ticket $1
+37 1 want 36 opened
+38 1 close 37 closed
+39 1 seal sealed
+40 1 activate active B
+41 1 leave-stage
+42 1 close 15 closed
+";
+
+// The list of the system, the manifests of the update package (some have no epoch), its images (some have no vbmeta),
+// and how the history of an update ends.
 #[derive(Clone, Copy)]
 struct Case<'a> {
     list: &'a [u8],
-    epoch: &'a [u8],
+    epoch: Option<&'a [u8]>,
     packages: &'a [u8],
     images: &'a [u8],
+    zbi: &'a [u8],
+    vbmeta: Option<&'a [u8]>,
     end: &'a [u8],
 }
 
@@ -56,10 +90,12 @@ struct Case<'a> {
 fn shop_of(alloc: Global, case: &Case) -> Result<(Shop, [Root; 4]), Fail> {
     let mut shop = Shop::new(alloc);
     let system = shop.package_of(b"system_image", b"data/static_packages", case.list)?;
-    let images = shop.package_of(b"images", b"zbi", b"zbi-1")?;
-    let roots = [system, images, Root(sum_of(b"zbi-1").sha)];
+    let images = add_images(alloc, &mut shop, case)?;
+    let roots = [system, images, Root(sum_of(case.zbi).sha)];
     let mut lines = Vec::new(alloc);
-    shop.line(&mut lines, b"epoch.json", case.epoch)?;
+    if let Some(epoch) = case.epoch {
+        shop.line(&mut lines, b"epoch.json", epoch)?;
+    }
     shop.line(
         &mut lines,
         b"images.json",
@@ -72,6 +108,16 @@ fn shop_of(alloc: Global, case: &Case) -> Result<(Shop, [Root; 4]), Fail> {
     )?;
     let update = shop.package(b"update", lines)?;
     Ok((shop, [system, images, roots[2], update]))
+}
+
+// Adds the package of the images.
+fn add_images(alloc: Global, shop: &mut Shop, case: &Case) -> Result<Root, Fail> {
+    let mut lines = Vec::new(alloc);
+    if let Some(vbmeta) = case.vbmeta {
+        shop.line(&mut lines, b"vbmeta", vbmeta)?;
+    }
+    shop.line(&mut lines, b"zbi", case.zbi)?;
+    shop.package(b"images", lines)
 }
 
 // The shop of an update to the system of an empty list.
@@ -91,41 +137,34 @@ fn history_of<W: Wait>(rt: &W, alloc: Global, shop: Shop) -> Result<Bytes, Fail>
 fn good<'a>(list: &'a [u8], end: &'a [u8]) -> Case<'a> {
     Case {
         list,
-        epoch: EPOCH,
+        epoch: Some(EPOCH),
         packages: PACKAGES,
         images: IMAGES,
+        zbi: b"zbi-1",
+        vbmeta: None,
         end,
     }
 }
 
 // With the list of the running system, and one manifest in place of a good one.
-fn with_epoch<'a>(epoch: &'a [u8], end: &'a [u8]) -> Case<'a> {
+fn with_epoch<'a>(epoch: Option<&'a [u8]>, end: &'a [u8]) -> Case<'a> {
     Case {
-        list: b"",
         epoch,
-        packages: PACKAGES,
-        images: IMAGES,
-        end,
+        ..good(b"", end)
     }
 }
 
 fn with_packages<'a>(packages: &'a [u8], end: &'a [u8]) -> Case<'a> {
     Case {
-        list: b"",
-        epoch: EPOCH,
         packages,
-        images: IMAGES,
-        end,
+        ..good(b"", end)
     }
 }
 
 fn with_images<'a>(images: &'a [u8], end: &'a [u8]) -> Case<'a> {
     Case {
-        list: b"",
-        epoch: EPOCH,
-        packages: PACKAGES,
         images,
-        end,
+        ..good(b"", end)
     }
 }
 
@@ -158,11 +197,28 @@ fn an_update_is_staged(rt: HostRuntime) -> Result<(), Fail> {
     Ok(())
 }
 
-// A manifest that is bad, or of an older system.
+// The zbi is one byte longer than a part that is copied at once.
+#[test]
+fn two_images_are_staged(rt: HostRuntime) -> Result<(), Fail> {
+    let alloc = rt.alloc();
+    let zbi = vec![in alloc; b'z'; 65_537]?;
+    let case = Case {
+        zbi: &zbi,
+        vbmeta: Some(b"vb"),
+        ..with_images(BOTH, STAGED_BOTH)
+    };
+    assert!(rt; ends_so(&rt, alloc, &case)?);
+    Ok(())
+}
+
+// A manifest that is bad, or of an older system. Without an epoch it is 0.
 #[test]
 fn bad_manifests(rt: HostRuntime) -> Result<(), Fail> {
     let alloc = rt.alloc();
-    let epoch = with_epoch(b"x", b"17 1 reject epoch.json\n18 1 close 15 closed\n");
+    let epoch = with_epoch(
+        Some(b"x"),
+        b"17 1 reject epoch.json\n18 1 close 15 closed\n",
+    );
     assert!(rt; ends_so(&rt, alloc, &epoch)?);
     let packages = with_packages(
         b"{\"version\":\"2\",\"content\":[]}",
@@ -175,10 +231,12 @@ fn bad_manifests(rt: HostRuntime) -> Result<(), Fail> {
     );
     assert!(rt; ends_so(&rt, alloc, &images)?);
     let older = with_epoch(
-        b"{\"version\":\"1\",\"epoch\":0}",
+        Some(b"{\"version\":\"1\",\"epoch\":0}"),
         b"19 1 stage 0 older 1\n20 1 close 15 closed\n",
     );
     assert!(rt; ends_so(&rt, alloc, &older)?);
+    let missing = with_epoch(None, b"16 1 stage 0 older 1\n17 1 close 12 closed\n");
+    assert!(rt; ends_so(&rt, alloc, &missing)?);
     Ok(())
 }
 

@@ -19,8 +19,18 @@ fn no_listing(alloc: Global) -> Vec<Pinned>
 
 // How the files are published at `example/0` into an empty repository, and the post after that.
 fn published(alloc: Global, files: Vec<FarEntry>) -> Result<(PublishEnd, MemPost), Fail> {
+    published_where(alloc, files, &[])
+}
+
+// The same where the calls of the post with these numbers fail.
+fn published_where(
+    alloc: Global,
+    files: Vec<FarEntry>,
+    failing: &[u64],
+) -> Result<(PublishEnd, MemPost), Fail> {
     let mut tree = MemTree::make(files, Vec::new(alloc));
-    let mut post = MemPost::make(no_listing(alloc), Vec::new(alloc), Vec::new(alloc));
+    let failing = Vec::from_slice(alloc, failing)?;
+    let mut post = MemPost::make(no_listing(alloc), Vec::new(alloc), failing);
     let mut sink = MemSink::make(alloc, 256, Vec::new(alloc))?;
     let path = read_path(alloc, b"example")?;
     let end = publish(alloc, &path, &mut tree, &mut post, &mut sink);
@@ -86,5 +96,24 @@ fn a_file_that_is_too_long(rt: HostRuntime) -> Result<(), Fail> {
             len: 33_554_433
         }
     );
+    Ok(())
+}
+
+// A file is judged before anything is posted of it. Of two outer files the post has five calls: a blob each, one for
+// its listing, one for the meta blob and one for the new listing.
+#[test]
+fn no_call_too_many(rt: HostRuntime) -> Result<(), Fail> {
+    let alloc = rt.alloc();
+    let (end, post) = published_where(alloc, numbered_files(alloc, b"data", 2)?, &[6])?;
+    assert!(rt; matches!(end, PublishEnd::Published { .. }));
+    assert_eq!(rt; post.faults(), 0);
+    let mut files = Vec::new(alloc);
+    files.push(FarEntry {
+        name: read_file(alloc, b"meta/contents")?,
+        bytes: Bytes::make(Vec::new(alloc)),
+    })?;
+    let (end, post) = published_where(alloc, files, &[1])?;
+    assert_eq!(rt; end, PublishEnd::Reserved { file: 1 });
+    assert_eq!(rt; post.faults(), 0);
     Ok(())
 }
