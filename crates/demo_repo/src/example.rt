@@ -21,8 +21,6 @@ const IMAGES: &[u8] =
 
 const KERNEL: &[u8] = b"a kernel\n";
 
-const _: () = prove!(KERNEL.len() == 9);
-
 /// The shops that have the example's files. The new one is listed.
 #[derive(Drop)]
 pub(crate) struct Example {
@@ -63,6 +61,8 @@ fn stock_update(alloc: Global, shop: &mut Shop) -> Result<(), Fail> {
     let mut list = Vec::new(alloc);
     push_line(&mut list, b"shell/0", &base)?;
     let system = shop.package_of(b"system_image", b"data/static_packages", &list)?;
+    // The manifest tells this length.
+    prove!(KERNEL.len() == 9);
     let images = shop.package_of(b"update-images", b"zbi", KERNEL)?;
     let named = [system, base, images, Root(Sha256::digest(KERNEL))];
     let mut lines = Vec::new(alloc);
